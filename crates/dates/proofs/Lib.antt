@@ -1,0 +1,4 @@
+pub mod DayLaws
+pub mod FourBytes
+pub mod Orders
+pub mod SurveyLaws
