@@ -1,0 +1,2 @@
+mod InsetLaws
+mod PairLaws

@@ -1,0 +1,4 @@
+mod Boards
+mod Queues
+mod Steps
+mod Tallies
