@@ -1,0 +1,3 @@
+-- The lemmas.
+pub mod Placing
+pub mod Replaying
