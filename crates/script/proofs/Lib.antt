@@ -1,0 +1,7 @@
+mod Cuts
+mod Lines
+mod Listed
+mod Parsed
+mod Reading
+mod Words
+mod Working
