@@ -1,7 +1,7 @@
 // The house book: its machine is a tally paired with a pair of queue and board.
 ghost use Rattle.std.specs.Of.String.{string-bytes};
 ghost use Rattle.script.specs.Scripts.{Agrees};
-ghost use Rattle.script.specs.Transcripts.{transcript};
+ghost use Rattle.replies.specs.Transcripts.{transcript};
 ghost use Rattle.house.specs.House.{house};
 use machines::Pair;
 use machines::PairMachine;
@@ -11,8 +11,8 @@ use primitives::Queue;
 use primitives::QueueMachine;
 use primitives::Tally;
 use primitives::TallyMachine;
-use script::line::ScriptFault;
-use script::transcript::print_script;
+use replies::print_script;
+use script::ScriptFault;
 use std::alloc::Global;
 
 pub type HouseMachine = Pair<Tally, Pair<Queue, Board>>;

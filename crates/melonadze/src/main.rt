@@ -1,6 +1,6 @@
 // Reads a script, works it off on a new house book, and prints its answers.
 use house::print_house_script;
-use script::script::ScriptFaultDisplay;
+use script::ScriptFaultDisplay;
 use std::env;
 use std::error::AnyError;
 use std::fs;

@@ -1,7 +1,2 @@
 mod Cuts
-mod Lines
-mod Listed
-mod Parsed
 mod Reading
-mod Words
-mod Working

@@ -15,7 +15,7 @@ use Rattle.book.specs.declared.call.Call.{Call}
 use Rattle.dates.specs.declared.fault.NoSuchDate.{NoSuchDate}
 use Rattle.script.specs.Commands.{call, then}
 use Rattle.script.specs.Scripts.{Agrees, at-line, calls, head, head-with, line-call, put, script, script-of, setting}
-use Rattle.script.specs.Text.{lines, spelled, words}
+use Rattle.words.specs.Text.{lines, spelled, words}
 use Rattle.script.specs.Written.{day-written, survey-written}
 use Rattle.script.specs.declared.line.Kind.{Kind}
 use Rattle.script.specs.declared.line.Kind.the-variants.{Days, Survey}
@@ -92,10 +92,10 @@ pub call-some : {D : Type 0} (written : List ℕ → Option (Result D NoSuchDate
 call-some written [] h = absurd (omega arith)
 call-some written (a ∷ ws) h = refl
 
--- the calls of a script whose head names a kind and ends
-module _ (text : List ℕ) (ls : List (RefT (List ℕ))) (are : spelled ls ≡ lines text) where
+-- the calls of a script whose head names a kind and ends; ls are its lines as they lie in a slice of the pieces
+module _ (text : List ℕ) (ls pieces : List (RefT (List ℕ))) (slice : ls ≡ pieces) (cut : spelled pieces ≡ lines text) where
   by-head : (named : Kind × ℕ) → head Days 0 (spelled ls) ≡ Ok named → script text ≡ script-of (spelled ls) named
-  by-head named told = ap (λ l. then (head Days 0 l) (script-of l)) (sym are) ∙ ap (λ h. then h (script-of (spelled ls))) told
+  by-head named told = ap (λ l. then (head Days 0 l) (script-of l)) (sym (ap spelled slice ∙ cut)) ∙ ap (λ h. then h (script-of (spelled ls))) told
 
   pub says-days : (named : Kind × ℕ) → head Days 0 (spelled ls) ≡ Ok named → named .0 ≡ Days → script text ≡ then (calls day-written (named .1) (drop (named .1) (spelled ls))) (λ found. Ok (inl found))
   says-days (Days, n) told is = by-head (Days, n) told

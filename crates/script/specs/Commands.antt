@@ -10,9 +10,9 @@ use Rattle.std.specs.shelf.Text.{sameBytes}
 use Rattle.book.specs.declared.call.Call.{Call}
 use Rattle.book.specs.declared.call.Call.the-variants.{Ask, Enter}
 use Rattle.dates.specs.declared.fault.NoSuchDate.{NoSuchDate}
-use Rattle.script.specs.Operations.{operation, question, with}
-use Rattle.script.specs.declared.reason.Reason.{Reason}
-use Rattle.script.specs.declared.reason.Reason.the-variants.{LateKind, NotDate, UnknownCommand}
+use Rattle.words.specs.Operations.{operation, question, with}
+use Rattle.words.specs.declared.reason.Reason.{Reason}
+use Rattle.words.specs.declared.reason.Reason.the-variants.{LateKind, NotDate, UnknownCommand}
 
 -- goes on with what was read, or stops for the same reason
 abbrev pub then : {A B E : Type 0} → Result A E → (A → Result B E) → Result B E

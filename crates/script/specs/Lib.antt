@@ -1,9 +1,3 @@
 pub mod Commands
-pub mod Numbers
-pub mod Operations
-pub mod Reasons
-pub mod Replies
 pub mod Scripts
-pub mod Text
-pub mod Transcripts
 pub mod Written

@@ -18,8 +18,8 @@ use Rattle.dates.specs.declared.day.DayNumber.{DayNumber}
 use Rattle.dates.specs.declared.fault.NoSuchDate.{NoSuchDate}
 use Rattle.dates.specs.declared.survey.SurveyDate.{SurveyDate}
 use Rattle.script.specs.Commands.{call, then}
-use Rattle.script.specs.Reasons.{explained}
-use Rattle.script.specs.Text.{lines, words}
+use Rattle.words.specs.Reasons.{explained}
+use Rattle.words.specs.Text.{lines, words}
 use Rattle.script.specs.Written.{day-written, survey-written}
 use Rattle.script.specs.declared.line.Kind.{Kind}
 use Rattle.script.specs.declared.line.Kind.the-variants.{Days, Survey}
@@ -30,8 +30,8 @@ use Rattle.script.specs.declared.line.ScriptFault.{ScriptFault}
 use Rattle.script.specs.declared.line.ScriptFault.the-variants.{BadLine, NoMemory}
 use Rattle.script.specs.declared.line.Setting.{Setting}
 use Rattle.script.specs.declared.line.Setting.the-variants.{Begun, Blank, Named}
-use Rattle.script.specs.declared.reason.Reason.{Reason}
-use Rattle.script.specs.declared.reason.Reason.the-variants.{UnknownKind}
+use Rattle.words.specs.declared.reason.Reason.{Reason}
+use Rattle.words.specs.declared.reason.Reason.the-variants.{UnknownKind}
 
 -- the kind that the words after `dates` name
 abbrev pub kind : List (List ℕ) → Result Kind Reason

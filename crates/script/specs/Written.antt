@@ -14,7 +14,7 @@ use Rattle.dates.specs.Survey.{dated}
 use Rattle.dates.specs.declared.day.DayNumber.{DayNumber}
 use Rattle.dates.specs.declared.fault.NoSuchDate.{NoSuchDate}
 use Rattle.dates.specs.declared.survey.SurveyDate.{SurveyDate}
-use Rattle.script.specs.Numbers.{signed, unsigned}
+use Rattle.words.specs.Numbers.{signed, unsigned}
 
 -- a day number is written as a number
 abbrev pub day-written : List ℕ → Option (Result DayNumber NoSuchDate)

@@ -1,13 +1,13 @@
 // The calls that the words of a line name.
 ghost use mathlib.Core.Path.{_≡_};
 ghost use Rattle.script.specs.Commands.{asking, call, entering};
-ghost use Rattle.script.specs.Text.{spelled};
-use crate::operation::read_operation;
-use crate::operation::read_question;
-use crate::reason::Reason;
+ghost use Rattle.words.specs.Text.{spelled};
 use crate::written::WrittenDate;
 use book::Call;
 use dates::NoSuchDate;
+use words::Reason;
+use words::read_operation;
+use words::read_question;
 
 fn read_entering<D: WrittenDate>(
     date: &str,

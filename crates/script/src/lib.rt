@@ -1,12 +1,14 @@
-// Scripts: text to calls, and answers to text.
+// Scripts: the calls that a text names.
 pub mod command;
 pub mod line;
-pub mod number;
-pub mod operation;
-pub mod reason;
-pub mod reply;
 pub mod script;
-pub mod text;
-pub mod transcript;
-pub mod work;
 pub mod written;
+
+pub use line::Kind;
+pub use line::Line;
+pub use line::Script;
+pub use line::ScriptFault;
+pub use script::ScriptFaultDisplay;
+pub use script::ScriptFaultFromAlloc;
+pub use script::parse;
+pub use written::WrittenDate;

@@ -1,9 +1,9 @@
 // What a script is made of.
-use crate::reason::Reason;
 use book::Call;
 use dates::DayNumber;
 use dates::NoSuchDate;
 use dates::SurveyDate;
+use words::Reason;
 
 // The kind of date that a script names.
 #[derive(Clone, Copy)]

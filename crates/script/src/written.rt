@@ -6,15 +6,15 @@ ghost use Rattle.std.specs.declared.option.Option.{Option};
 ghost use Rattle.std.specs.declared.result.Result.{Result};
 ghost use Rattle.dates.specs.declared.fault.NoSuchDate.{NoSuchDate};
 ghost use Rattle.script.specs.Written.{day-written, parts, survey-written};
-use crate::number::signed_32;
-use crate::number::unsigned_8;
-use crate::number::unsigned_16;
 use dates::Date;
 use dates::DayNumber;
 use dates::DayNumberDate;
 use dates::NoSuchDate;
 use dates::SurveyDate;
 use dates::SurveyDateDate;
+use words::signed_32;
+use words::unsigned_8;
+use words::unsigned_16;
 
 pub trait WrittenDate: Date {
     // What a word says: none where it is not written as a date of this kind, and else the date, or that there is no such.

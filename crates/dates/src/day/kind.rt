@@ -13,13 +13,6 @@ impl DayNumber {
     {
         DayNumber { number }
     }
-
-    // Days since 1970-01-01, negative before it.
-    pub fn number(&self) -> i32
-        ensures { λ r. ⌜ r ≡ now (self .entry) .number ⌝ }
-    {
-        self.number
-    }
 }
 
 pub impl Date for DayNumber as DayNumberDate {

@@ -3,7 +3,7 @@ use mathlib.Core.Path.{_≡_}
 use Prim.Native.Nat.{_≤_}
 use lib.ListN.{length}
 use Rattle.std.proofs.shelf.Equals.{sameBytes-decides}
-use Rattle.script.proofs.Listed.{none, one, two-up}
+use Rattle.words.proofs.Listed.{none, one, two-up}
 use Rattle.script.proofs.command.read_call.Needs as need
 use Rattle.script.proofs.command.read_call.Needs.{then-words-lt2·in-dates·, else-words-lt2·in-dates·, in-rest·by·then-words-lt1, in-rest·by·else-words-lt1·then-words-lt2·in-rest, in-rest·by·else-words-lt1·else-words-lt2·in-rest}
 

@@ -6,8 +6,8 @@ use Rattle.std.specs.Of.Vec.{vec-items}
 use Rattle.std.specs.declared.result.Result.the-variants.{Ok, Err}
 use Rattle.script.specs.Commands.{then}
 use Rattle.script.specs.Scripts.{calls}
-use Rattle.script.specs.Text.{spelled}
-use Rattle.script.proofs.Listed.{nowhere}
+use Rattle.words.specs.Text.{spelled}
+use Rattle.words.proofs.Listed.{nowhere}
 use Rattle.script.proofs.Reading.{calls-more, calls-none, calls-some, none-yet, stopped}
 use Rattle.script.proofs.script.read_calls.Needs as need
 use Rattle.script.proofs.script.read_calls.Needs.{in-Some·in-Continue-push, in-rest}

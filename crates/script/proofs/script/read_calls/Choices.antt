@@ -5,7 +5,7 @@ use Rattle.std.specs.Of.Vec.{vec-items}
 use Rattle.std.specs.declared.result.Result.the-variants.{Ok}
 use Rattle.script.specs.Commands.{then}
 use Rattle.script.specs.Scripts.{calls}
-use Rattle.script.specs.Text.{spelled}
+use Rattle.words.specs.Text.{spelled}
 use Rattle.script.proofs.script.read_calls.Given as given
 
 abbrev pub Inv-loop-i : given.InvT-loop-i

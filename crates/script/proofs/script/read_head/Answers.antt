@@ -6,8 +6,8 @@ use Rattle.std.proofs.shelf.Lists.{at-drop-all}
 use Rattle.std.proofs.shelf.Results.{err-from-errBy}
 use Rattle.std.specs.declared.result.Result.the-variants.{Ok, Err}
 use Rattle.script.specs.Scripts.{head}
-use Rattle.script.specs.Text.{spelled}
-use Rattle.script.proofs.Listed.{nowhere}
+use Rattle.words.specs.Text.{spelled}
+use Rattle.words.proofs.Listed.{nowhere}
 use Rattle.script.proofs.Reading.{head-begun, head-blank, head-more, head-named, stopped}
 use Rattle.script.proofs.script.read_head.Needs as need
 use Rattle.script.proofs.script.read_head.Needs.{in-Blank, in-Named}

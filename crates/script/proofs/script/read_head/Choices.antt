@@ -1,7 +1,7 @@
 use mathlib.Core.Path.{_≡_}
 use lib.ListN.{drop}
 use Rattle.script.specs.Scripts.{head}
-use Rattle.script.specs.Text.{spelled}
+use Rattle.words.specs.Text.{spelled}
 use Rattle.script.specs.declared.line.Kind.the-variants.{Days}
 use Rattle.script.proofs.script.read_head.Given as given
 

@@ -3,7 +3,7 @@ use mathlib.Core.Path.{_≡_}
 use Prim.Native.Nat.{_≤_}
 use lib.ListN.{length}
 use Rattle.std.proofs.shelf.Equals.{sameBytes-decides}
-use Rattle.script.proofs.Listed.{none, one, two-up}
+use Rattle.words.proofs.Listed.{none, one, two-up}
 use Rattle.script.proofs.script.read_kind.Needs as need
 
 pub returns-in-days : need.returns-in-days

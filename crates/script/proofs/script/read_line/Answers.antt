@@ -2,7 +2,7 @@ use borrow.Author.Needs.{needs}
 use mathlib.Core.Path.{_≡_}
 use Prim.Native.Nat.{_≤_}
 use lib.ListN.{length}
-use Rattle.script.proofs.Listed.{none}
+use Rattle.words.proofs.Listed.{none}
 use Rattle.script.proofs.Reading.{call-some}
 use Rattle.script.proofs.script.read_line.Needs as need
 

@@ -1,6 +1,0 @@
-use mathlib.Core.Path.{_∙_}
-use Rattle.script.proofs.Parsed.{parsed-unsigned}
-use Rattle.script.proofs.number.unsigned_16.Needs as need
-
-pub returns : need.returns
-returns c = c .ok .ensures .value ∙ parsed-unsigned 16 (c .args .word .now) (c .parse .result) (c .parse .ensures .reads .0)

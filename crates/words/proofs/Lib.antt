@@ -1,0 +1,4 @@
+mod Lines
+pub mod Listed
+mod Parsed
+mod Words

@@ -1,0 +1,4 @@
+pub mod Numbers
+pub mod Operations
+pub mod Reasons
+pub mod Text
