@@ -2,7 +2,6 @@
 ghost use mathlib.Core.Path.{_≡_};
 ghost use Rattle.std.specs.declared.option.Option.the-variants.{Some};
 ghost use Rattle.book.specs.Refusals.{number, giver, words};
-ghost use Rattle.book.specs.declared.refusal.Refusal.the-variants.{Date, Machine};
 use dates::NoSuchDate;
 use dates::NoSuchDateDisplay;
 use machines::MachineFault;
@@ -34,22 +33,6 @@ impl Refusal {
             Refusal::Date(fault) => fault.giver(),
             Refusal::Machine(fault) => fault.giver(),
         }
-    }
-}
-
-pub impl From<NoSuchDate> for Refusal as RefusalFromDate {
-    ghost converts = { λ cause r. r ≡ Date cause };
-
-    fn from(cause: NoSuchDate) -> Refusal {
-        Refusal::Date(cause)
-    }
-}
-
-pub impl From<MachineFault> for Refusal as RefusalFromMachine {
-    ghost converts = { λ cause r. r ≡ Machine cause };
-
-    fn from(cause: MachineFault) -> Refusal {
-        Refusal::Machine(cause)
     }
 }
 
