@@ -110,7 +110,7 @@ impl<M: Machine> Trial<M> {
 }
 
 // Does the acts, from the first on, to a new machine in a counter.
-pub fn run<M: Machine>(heap: Global, acts: &[Act]) -> Result<(), Fail> {
+pub(crate) fn run<M: Machine>(heap: Global, acts: &[Act]) -> Result<(), Fail> {
     let mut trial = Trial::<M> {
         counter: Counter::new(heap)?,
         steps: Vec::new(heap),
@@ -131,7 +131,7 @@ fn is_true<M: Machine>(fact: Fact) -> bool {
 }
 
 // Each fact holds of the machines of this kind.
-pub fn hold<M: Machine>(facts: &[Fact]) -> Result<(), Fail> {
+pub(crate) fn hold<M: Machine>(facts: &[Fact]) -> Result<(), Fail> {
     for (i, fact) in facts.iter().enumerate() {
         check(is_true::<M>(*fact)).note(format_args!("fact {i}"))?;
     }
