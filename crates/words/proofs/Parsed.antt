@@ -1,15 +1,14 @@
 -- What `parse` answers is the number that the text spells.
-use mathlib.Core.Path.{_≡_, refl, sym, _∙_}
+use mathlib.Core.Path.{_≡_, refl}
 use mathlib.Core.Bool.{Bool, true, false, cond, _&&_, _||_}
 use mathlib.Core.List.{List}
 use Prim.Native.Nat.{ℕ, _+_, _-_, _*_, _^_, _≤_, _<_}
 use native.Mathlib.Omega.{arith}
 use lib.Dec.{eqb, ltb}
-use lib.IntN.{ℤ, pos, negℤ}
-use lib.ListN.{length, getD, drop}
+use lib.IntN.{ℤ}
+use lib.ListN.{length, drop}
 use mir.Syntax.{w32}
 use Rattle.std.proofs.shelf.Numerals.{Numerals, numerals-by-fold, parse-plain, parse-plus, parse-signed-minus, parse-signed-plain, parse-signed-plus, tells-allDigits}
-use Rattle.std.proofs.shelf.Tests.{both-ways}
 use Rattle.std.proofs.shelf.Ways.{tells}
 use Rattle.std.specs.Iters.{folded}
 use Rattle.std.specs.Numbers.{Converted}

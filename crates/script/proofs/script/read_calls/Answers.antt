@@ -1,4 +1,4 @@
-use mathlib.Core.Path.{_≡_, ap, _∙_}
+use mathlib.Core.Path.{ap, _∙_}
 use mathlib.Core.List.{_++_, append-nil}
 use Rattle.std.proofs.shelf.Lists.{at-drop-all, drop-map}
 use Rattle.std.proofs.shelf.Results.{err-from-errBy}

@@ -4,7 +4,7 @@ use Prim.Native.Nat.{ℕ}
 use native.Mathlib.Omega.{arith}
 use Rattle.std.specs.Options.{mapped}
 use Rattle.std.specs.declared.option.Option.{Option}
-use Rattle.std.specs.declared.option.Option.the-variants.{Some, None}
+use Rattle.std.specs.declared.option.Option.the-variants.{Some}
 use Rattle.script.specs.Written.{cut-at, month-parts, parts, year-parts}
 use Rattle.script.proofs.Cuts.{sides, split-cut}
 use Rattle.script.proofs.written.parts_of.Needs as need
