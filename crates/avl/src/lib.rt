@@ -1,5 +1,7 @@
 // The theory of the tree that keeps a book's slots in book order: what its levels, its rebalancing and its joins come to, over any order
 // of dates and any summaries.
+#![tactic(auto)]
+
 pub mod claims;
 pub mod levels;
 

@@ -1,12 +1,10 @@
 -- The laws of `before`, and what a comparison place by place answers.
 use Rattle.std.specs.Prelude.{◌≡◌, ℕ, ◌<◌, true, false, List, [], ◌∷◌, refl}
-use Rattle.std.specs.declared.cmp.Ordering.TheVariants.{Less, Equal, Greater}
-use Rattle.std.specs.declared.cmp.Ordering.{Ordering}
 use Rattle.std.proofs.Common.{sym, ap₂, arith}
 use Rattle.std.proofs.lemmas.Bool.{false≢true}
 use Rattle.std.proofs.lemmas.Bool.Decides.{nat_tests}
-use Rattle.std.specs.Ordering.{MatchOrdering}
-use Rattle.std.specs.Cmp.Lexicographic.{Lex}
+use Rattle.std.specs.Ordering.{nat_cmp}
+use Rattle.std.specs.Cmp.Lexicographic.{slice_cmp}
 use Rattle.dates.specs.Order.{before, ranked}
 
 pub before_one_way : (xs ys : List ℕ) → before xs ys ≡ true → before ys xs ≡ false
@@ -34,10 +32,8 @@ before_same (x ∷ xs) (y ∷ ys) h k =
     ap₂ ◌∷◌ first (before_same xs ys under over)
 
 -- what `cmp` answers of two lists of numbers
-pub lex_ranked : (xs ys : List ℕ) (r : Ordering) → Lex (λ a b o. MatchOrdering o (a < b) (a ≡ b) (b < a)) xs ys r → r ≡ ranked (before xs ys) (before ys xs)
-lex_ranked [] [] r h = h
-lex_ranked [] (y ∷ ys) r h = h
-lex_ranked (x ∷ xs) [] r h = h
-lex_ranked (x ∷ xs) (y ∷ ys) r (Less, first, rest) = grind (arith, nat_tests)
-lex_ranked (x ∷ xs) (y ∷ ys) r (Equal, first, rest) = let same = lex_ranked xs ys r rest in grind (arith, nat_tests)
-lex_ranked (x ∷ xs) (y ∷ ys) r (Greater, first, rest) = grind (arith, nat_tests)
+pub lex_ranked : (xs ys : List ℕ) → slice_cmp nat_cmp xs ys ≡ ranked (before xs ys) (before ys xs)
+lex_ranked [] [] = refl
+lex_ranked [] (y ∷ ys) = refl
+lex_ranked (x ∷ xs) [] = refl
+lex_ranked (x ∷ xs) (y ∷ ys) = let same = lex_ranked xs ys in grind (arith, nat_tests)

@@ -1,4 +1,6 @@
 // Kinds of date: each has a number, a total order and a form of four bytes.
+#![tactic(auto)]
+
 pub mod date;
 pub mod day;
 pub mod fault;

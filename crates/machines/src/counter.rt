@@ -16,7 +16,7 @@ pub struct Counter<M> {
 impl<M: Machine> Counter<M> {
     // An empty machine, and no steps.
     pub fn new(heap: Global) -> Result<Counter<M>, AllocError>
-        ensures { IfOk result (λ counter. (state counter.machine ≡ model.empty) × (counter.back ≡ 0) × (counter.forward ≡ 0)) }
+        ensures { IfOk result (λ counter. (M.state counter.machine ≡ M.model.empty) × (counter.back ≡ 0) × (counter.forward ≡ 0)) }
     {
         Ok(Counter {
             machine: M::new(heap)?,
@@ -36,8 +36,8 @@ impl<M: Machine> Counter<M> {
     }
 
     pub fn step(&mut self, operation: &Operation) -> Note
-        ensures next { state self.new.machine ≡ model.next (state self.old.machine) operation.now }
-        ensures noted { result ≡ model.noted (state self.old.machine) operation.now }
+        ensures next { M.state self.new.machine ≡ M.model.next (M.state self.old.machine) operation.now }
+        ensures noted { result ≡ M.model.noted (M.state self.old.machine) operation.now }
         ensures back { self.new.back ≡ self.old.back }
         ensures forward { self.new.forward ≡ min (self.old.forward + 1) (2 ^ 32 - 1) }
     {
@@ -46,7 +46,7 @@ impl<M: Machine> Counter<M> {
     }
 
     pub fn take_back(&mut self, operation: &Operation, note: Note)
-        ensures undoes { TakesBack model (state self.old.machine) operation.now note (state self.new.machine) }
+        ensures undoes { TakesBack M.model (M.state self.old.machine) operation.now note (M.state self.new.machine) }
         ensures back { self.new.back ≡ min (self.old.back + 1) (2 ^ 32 - 1) }
         ensures forward { self.new.forward ≡ self.old.forward }
     {
@@ -55,7 +55,7 @@ impl<M: Machine> Counter<M> {
     }
 
     pub fn read(&self, question: &Question) -> Option<i64>
-        ensures { result ≡ model.reads (state self.now.machine) question.now }
+        ensures { result ≡ M.model.reads (M.state self.now.machine) question.now }
     {
         self.machine.read(question)
     }

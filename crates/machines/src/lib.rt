@@ -1,4 +1,6 @@
 // The interface of a machine, machines made of machines, and the counter that holds one.
+#![tactic(auto)]
+
 pub mod counter;
 pub mod fault;
 pub mod inset;

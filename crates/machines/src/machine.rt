@@ -43,7 +43,7 @@ pub trait Machine: Drop + Sized {
 
 // Refuses an operation that the machine does not know.
 pub fn check_operation<M: Machine>(operation: &Operation) -> Result<(), MachineFault>
-    ensures { result ≡ known model operation.now }
+    ensures { result ≡ known M.model operation.now }
 {
     if M::knows(operation) {
         Ok(())
@@ -54,7 +54,7 @@ pub fn check_operation<M: Machine>(operation: &Operation) -> Result<(), MachineF
 
 // Refuses a question that the machine does not answer.
 pub fn check_question<M: Machine>(question: &Question) -> Result<(), MachineFault>
-    ensures { result ≡ answered model question.now }
+    ensures { result ≡ answered M.model question.now }
 {
     if M::answers(question) {
         Ok(())

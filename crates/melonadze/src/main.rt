@@ -1,4 +1,5 @@
 // Reads a script, works it off on a new house book, and prints its answers.
+#![tactic(auto)]
 use anyhow::anyhow;
 use house::print_house_script;
 use std::{env, fs, io};

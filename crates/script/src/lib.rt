@@ -1,4 +1,5 @@
 // Scripts: the calls that a text names.
+#![tactic(auto)]
 pub mod command;
 pub mod line;
 pub mod script;

@@ -2,6 +2,7 @@
 // entries come in and after every third is voided. What is printed is compared with the file `stdout`.
 //
 // The other modules are tests of the calls on small shelves: where an entry goes, and what is at the edges.
+#![tactic(auto)]
 #[cfg(test)]
 mod checks;
 #[cfg(test)]

@@ -5,5 +5,5 @@ use Rattle.dates.proofs.day.kind.DayNumberDate.from_bytes.Goals as goal
 
 pub returns : goal.returns
 returns c =
-    let fits = to_z-of_z w32 c.from-le-bytes.result (record { sfits = c.from-le-bytes.type-inv }) in
-    ap Ok (same_day _ _ (c.new.ensures.number ∙ fits ∙ c.from-le-bytes.ensures))
+    let fits = to_z-of_z w32 c.from_le_bytes.result (record { sfits = c.from_le_bytes.type_inv }) in
+    ap Ok (same_day _ _ (c.new.ensures.number ∙ fits ∙ c.from_le_bytes.ensures))
