@@ -29,7 +29,7 @@ pub struct Entries<D> {
 
 impl<D: Date> Entry<D> {
     fn is_later_than(&self, date: &D) -> bool
-        ensures { result ≡ later model date.now self.now }
+        ensures { result ≡ later D.model date.now self.now }
     {
         match date.compare(&self.date) {
             Ordering::Less => true,
@@ -42,7 +42,7 @@ impl<D: Date> Entries<D> {
     // A book with no entry.
     pub fn new(heap: Global) -> Entries<D>
         ensures none { listed result ≡ [] }
-        ensures ordered { InBookOrder model (listed result) }
+        ensures ordered { InBookOrder D.model (listed result) }
     {
         Entries {
             entries: Vec::new(heap),
@@ -104,7 +104,7 @@ impl<D: Date> Entries<D> {
 
     // Where a new entry of the date stands: in front of the entries at the end that are later.
     fn place(&self, date: &D) -> usize
-        ensures { result ≡ place model date.now (listed self.now) }
+        ensures { result ≡ place D.model date.now (listed self.now) }
     {
         let mut place = self.entries.len();
         while place > 0 && self.entries[place - 1].is_later_than(date) {

@@ -1,5 +1,6 @@
 // The three machines that are not made of others: counts, jobs that wait, and statuses.
 #![tactic(auto)]
+
 pub mod board;
 pub mod queue;
 pub mod tally;

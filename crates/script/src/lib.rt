@@ -1,5 +1,6 @@
 // Scripts: the calls that a text names.
 #![tactic(auto)]
+
 pub mod command;
 pub mod line;
 pub mod script;

@@ -1,5 +1,6 @@
 // Summaries of operations, and watches: questions of a machine that are answered from joined summaries, without a step.
 #![tactic(auto)]
+
 pub mod cell;
 pub mod first;
 pub mod span;

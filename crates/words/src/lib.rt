@@ -1,5 +1,6 @@
 // The words of a script: how a text is cut into them, and the numbers, operations and questions that they name.
 #![tactic(auto)]
+
 pub mod number;
 pub mod operation;
 pub mod reason;

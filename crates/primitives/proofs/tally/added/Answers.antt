@@ -4,7 +4,7 @@ use Rattle.std.proofs.lemmas.Int.{ints}
 use Rattle.primitives.specs.Ranges.{within}
 use Rattle.primitives.proofs.tally.added.Goals as goal
 
-pub returns-then-is-count : goal.returns-then-is-count
-returns-then-is-count c =
+pub returns-then-is_count : goal.returns-then-is_count
+returns-then-is_count c =
     let inside : within 2_000_000_000 (c.args.count +ℤ c.args.amount) ≡ true = grind (arith, ints) in
     simp inside (ap Some (grind (arith, ints)))

@@ -7,16 +7,16 @@ use Rattle.words.specs.Text.{spelled}
 use Rattle.words.proofs.Listed.{nowhere}
 use Rattle.script.proofs.Reading.{calls_more, calls_none, calls_some, none_yet, stopped}
 use Rattle.script.proofs.script.read_calls.Goals as goal
-use Rattle.script.proofs.script.read_calls.Goals.{in-Some+in-ok-push, in-default}
+use Rattle.script.proofs.script.read_calls.Goals.{in-Some+in_ok-push, in_default}
 
-pub returns-in-err-call : goal.returns-in-err-call
-returns-in-err-call g c =
-    let p = err_from_is_err_and c.from-residual.result c.from-residual.ensures.1 in
-    stopped vec_items _ _ _ _ _ (p.1 ∙ ap Err p.2) c.in-err-call.ensures (c.loop-i.invariant ∙ calls_more c.args.lines.now c.loop-i.i nowhere c.loop-i-test.true g.D.WrittenDate.written _)
+pub returns-in_err-call : goal.returns-in_err-call
+returns-in_err-call g c =
+    let p = err_from_is_err_and c.from_residual.result c.from_residual.ensures.1 in
+    stopped vec_items _ _ _ _ _ (p.1 ∙ ap Err p.2) c.in_err-call.ensures (c.loop-i.invariant ∙ calls_more c.args.lines.now c.loop-i.i nowhere c.loop-i-test.true g.D.WrittenDate.written _)
 
-pub returns-in-err-push : goal.returns-in-err-push
-returns-in-err-push g c =
-    let p = err_from_is_err_and c.from-residual-in-err-push.result c.from-residual-in-err-push.ensures.1 in
+pub returns-in_err-push : goal.returns-in_err-push
+returns-in_err-push g c =
+    let p = err_from_is_err_and c.from_residual-in_err-push.result c.from_residual-in_err-push.ensures.1 in
     rw (p.1, p.2) tt
 
 pub loop-i-init : goal.loop-i-init
@@ -29,10 +29,10 @@ loop-i-preserved g c =
     let within = c.loop-i-test.true in
     let written = g.D.WrittenDate.written in
     let found = vec_items c.loop-i.found in
-    let told = c.in-ok-call.ensures in
+    let told = c.in_ok-call.ensures in
     elim c.match-branch-2.branch [
-      | in-Some+in-ok-push w ↦ calls_some lines i nowhere within written found _ _ _ c.loop-i.invariant told w.in-Some.call w.in-Some.is (ap vec_items w.found-is ∙ w.in-ok-push.ensures.items)
-      | in-default w ↦ calls_none lines i nowhere within written found _ _ _ c.loop-i.invariant told w.in-default.is (ap vec_items w.found-is)
+      | in-Some+in_ok-push w ↦ calls_some lines i nowhere within written found _ _ _ c.loop-i.invariant told w.in-Some.call w.in-Some.is (ap vec_items w.found-is ∙ w.in_ok-push.ensures.items)
+      | in_default w ↦ calls_none lines i nowhere within written found _ _ _ c.loop-i.invariant told w.in_default.is (ap vec_items w.found-is)
     ]
 
 pub returns : goal.returns

@@ -8,21 +8,21 @@ use Rattle.script.proofs.Reading.{head_begun, head_blank, head_more, head_named,
 use Rattle.script.proofs.script.read_head.Goals as goal
 use Rattle.script.proofs.script.read_head.Goals.{in-Blank, in-Named}
 
-pub returns-in-err-setting-at : goal.returns-in-err-setting-at
-returns-in-err-setting-at c =
-    let p = err_from_is_err_and c.from-residual.result c.from-residual.ensures.1 in
-    stopped (λ x. x) _ _ _ _ _ (p.1 ∙ ap Err p.2) c.in-err-setting-at.ensures (c.loop-i.invariant ∙ head_more c.args.lines.now c.loop-i.i nowhere c.loop-i-test.true c.loop-i.kind)
+pub returns-in_err-setting_at : goal.returns-in_err-setting_at
+returns-in_err-setting_at c =
+    let p = err_from_is_err_and c.from_residual.result c.from_residual.ensures.1 in
+    stopped (λ x. x) _ _ _ _ _ (p.1 ∙ ap Err p.2) c.in_err-setting_at.ensures (c.loop-i.invariant ∙ head_more c.args.lines.now c.loop-i.i nowhere c.loop-i-test.true c.loop-i.kind)
 
 pub returns-in-Begun : goal.returns-in-Begun
 returns-in-Begun c =
-    head_begun c.args.lines.now c.loop-i.i nowhere c.loop-i-test.true c.loop-i.kind _ _ c.loop-i.invariant c.in-ok-setting-at.ensures c.in-Begun.is
+    head_begun c.args.lines.now c.loop-i.i nowhere c.loop-i-test.true c.loop-i.kind _ _ c.loop-i.invariant c.in_ok-setting_at.ensures c.in-Begun.is
 
 pub loop-i-preserved : goal.loop-i-preserved
 loop-i-preserved c =
     let lines = c.args.lines.now in
     let i = c.loop-i.i in
     let within = c.loop-i-test.true in
-    let told = c.in-ok-setting-at.ensures in
+    let told = c.in_ok-setting_at.ensures in
     elim c.match-branch-2.branch [
       | in-Blank w ↦ head_blank lines i nowhere within c.loop-i.kind _ _ c.loop-i.invariant told _ w.in-Blank.is w.kind-is
       | in-Named w ↦ head_named lines i nowhere within c.loop-i.kind _ _ c.loop-i.invariant told _ _ w.in-Named.is w.kind-is

@@ -9,11 +9,11 @@ returns-in-days c = let long : length c.args.words.now ≡ 1 = search rules in r
 pub returns-in-survey : goal.returns-in-survey
 returns-in-survey c = let long : length c.args.words.now ≡ 1 = search rules in rw (one _ long) (search (rules, bytes_eq-Decides))
 
-pub returns-in-default : goal.returns-in-default
-returns-in-default c = let long : length c.args.words.now ≡ 0 = search rules in rw (none _ long) (search rules)
+pub returns-in_default : goal.returns-in_default
+returns-in_default c = let long : length c.args.words.now ≡ 0 = search rules in rw (none _ long) (search rules)
 
-pub returns-in-default·2 : goal.returns-in-default·2
-returns-in-default·2 c = let long : length c.args.words.now ≡ 1 = search rules in rw (one _ long) (search (rules, bytes_eq-Decides))
+pub returns-in_default·2 : goal.returns-in_default·2
+returns-in_default·2 c = let long : length c.args.words.now ≡ 1 = search rules in rw (one _ long) (search (rules, bytes_eq-Decides))
 
-pub returns-in-default·3 : goal.returns-in-default·3
-returns-in-default·3 c = let long : 2 ≤ length c.args.words.now = search rules in rw (two_up _ long) (search rules)
+pub returns-in_default·3 : goal.returns-in_default·3
+returns-in_default·3 c = let long : 2 ≤ length c.args.words.now = search rules in rw (two_up _ long) (search rules)

@@ -6,11 +6,11 @@ use Rattle.script.proofs.script.read_setting.Goals as goal
 pub returns-in-empty : goal.returns-in-empty
 returns-in-empty c = let long : length c.args.words.now ≡ 0 = search rules in rw (none _ long) (search rules)
 
-pub returns-in-ok-read-kind : goal.returns-in-ok-read-kind
-returns-in-ok-read-kind c = let long : 1 ≤ length c.args.words.now = search rules in rw (one_up _ long) (search rules)
+pub returns-in_ok-read_kind : goal.returns-in_ok-read_kind
+returns-in_ok-read_kind c = let long : 1 ≤ length c.args.words.now = search rules in rw (one_up _ long) (search rules)
 
-pub returns-in-err-read-kind : goal.returns-in-err-read-kind
-returns-in-err-read-kind c = let long : 1 ≤ length c.args.words.now = search rules in rw (one_up _ long) (search rules)
+pub returns-in_err-read_kind : goal.returns-in_err-read_kind
+returns-in_err-read_kind c = let long : 1 ≤ length c.args.words.now = search rules in rw (one_up _ long) (search rules)
 
-pub returns-in-default : goal.returns-in-default
-returns-in-default c = let long : 1 ≤ length c.args.words.now = search rules in rw (one_up _ long) (search (rules, bytes_eq-Decides))
+pub returns-in_default : goal.returns-in_default
+returns-in_default c = let long : 1 ≤ length c.args.words.now = search rules in rw (one_up _ long) (search (rules, bytes_eq-Decides))

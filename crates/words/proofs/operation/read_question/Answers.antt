@@ -20,20 +20,20 @@ returns-in-status c = let long : length c.args.words.now ≡ 2 = search rules in
 pub returns-in-question : goal.returns-in-question
 returns-in-question c = let long : length c.args.words.now ≡ 4 = search rules in rw (four _ long) (search rules)
 
-pub returns-in-default : goal.returns-in-default
-returns-in-default c = let long : length c.args.words.now ≡ 0 = search rules in rw (none _ long) (search rules)
+pub returns-in_default : goal.returns-in_default
+returns-in_default c = let long : length c.args.words.now ≡ 0 = search rules in rw (none _ long) (search rules)
 
-pub returns-in-default·2 : goal.returns-in-default·2
-returns-in-default·2 c = let long : length c.args.words.now ≡ 1 = search rules in rw (one _ long) (search (rules, bytes_eq-Decides))
+pub returns-in_default-2 : goal.returns-in_default-2
+returns-in_default-2 c = let long : length c.args.words.now ≡ 1 = search rules in rw (one _ long) (search (rules, bytes_eq-Decides))
 
-pub returns-in-default·3 : goal.returns-in-default·3
-returns-in-default·3 c = let long : length c.args.words.now ≡ 2 = search rules in rw (two _ long) (search (rules, bytes_eq-Decides))
+pub returns-in_default-3 : goal.returns-in_default-3
+returns-in_default-3 c = let long : length c.args.words.now ≡ 2 = search rules in rw (two _ long) (search (rules, bytes_eq-Decides))
 
-pub returns-in-default·4 : goal.returns-in-default·4
-returns-in-default·4 c = let long : length c.args.words.now ≡ 3 = search rules in rw (three _ long) (search rules)
+pub returns-in_default-4 : goal.returns-in_default-4
+returns-in_default-4 c = let long : length c.args.words.now ≡ 3 = search rules in rw (three _ long) (search rules)
 
-pub returns-in-default·5 : goal.returns-in-default·5
-returns-in-default·5 c = let long : length c.args.words.now ≡ 4 = search rules in rw (four _ long) (search (rules, bytes_eq-Decides))
+pub returns-in_default-5 : goal.returns-in_default-5
+returns-in_default-5 c = let long : length c.args.words.now ≡ 4 = search rules in rw (four _ long) (search (rules, bytes_eq-Decides))
 
-pub returns-in-default·6 : goal.returns-in-default·6
-returns-in-default·6 c = let long : 5 ≤ length c.args.words.now = search rules in five_up (λ ws. Err UnknownQuestion ≡ question ws) (λ a b c d e more. refl) _ long
+pub returns-in_default-6 : goal.returns-in_default-6
+returns-in_default-6 c = let long : 5 ≤ length c.args.words.now = search rules in five_up (λ ws. Err UnknownQuestion ≡ question ws) (λ a b c d e more. refl) _ long

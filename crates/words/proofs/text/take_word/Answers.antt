@@ -4,8 +4,8 @@ use Rattle.words.specs.Text.{spelled}
 use Rattle.words.proofs.Words.{complete_some}
 use Rattle.words.proofs.text.take_word.Goals as goal
 
-pub returns-in-ok-push : goal.returns-in-ok-push
-returns-in-ok-push c =
+pub returns-in_ok-push : goal.returns-in_ok-push
+returns-in_ok-push c =
     let pushed : vec_items c.push.new.self ≡ vec_items c.args.found.now ++ (c.range.result ∷ []) = search rules in
     let word = c.range.ensures.value in
     let some : 0 < length c.range.result.now = omega (arith, c.range.ensures.len) in

@@ -8,8 +8,8 @@ loop-place-init g c = passed_none _ _ _ (omega arith)
 
 pub loop-place-preserved : goal.loop-place-preserved
 loop-place-preserved g c =
-    passed_more _ _ _ _ c.loop-place-test.true c.index.ensures c.if-is-later-than.ensures c.loop-place.invariant
+    passed_more _ _ _ _ c.loop-place-test.true c.index.ensures c.if-is_later_than.ensures c.loop-place.invariant
 
-pub returns-else-is-later-than : goal.returns-else-is-later-than
-returns-else-is-later-than g c =
-    passed_all _ _ _ _ c.loop-place-test.true c.index.ensures c.if-is-later-than.ensures c.loop-place.invariant
+pub returns-else-is_later_than : goal.returns-else-is_later_than
+returns-else-is_later_than g c =
+    passed_all _ _ _ _ c.loop-place-test.true c.index.ensures c.if-is_later_than.ensures c.loop-place.invariant

@@ -6,8 +6,8 @@ use Rattle.primitives.specs.Boards.{board_lawful, board_back}
 use Rattle.primitives.specs.Steps.{idle_back, bounded_back}
 use Rattle.primitives.proofs.board.BoardMachine.take_back.Goals as goal
 
-pub returns-in-default : goal.returns-in-default
-returns-in-default c = idle_back plain_board board_bound board_lawful _ c.args.operation.now _ c.in-default.is
+pub returns-in_default : goal.returns-in_default
+returns-in_default c = idle_back plain_board board_bound board_lawful _ c.args.operation.now _ c.in_default.is
 
 pub returns-then-knows : goal.returns-then-knows
 returns-then-knows c =
