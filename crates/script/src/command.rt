@@ -12,7 +12,7 @@ fn read_entering<D: WrittenDate>(
     date: &str,
     words: &[&str],
 ) -> Result<Result<Call<D>, NoSuchDate>, Reason>
-    ensures { result ≡ entering (written date.now) (spelled words.now) }
+    ensures { result ≡ entering (D.written date.now) (spelled words.now) }
 {
     let date = D::read(date).ok_or(Reason::NotDate)?;
     let operation = read_operation(words)?;
@@ -26,7 +26,7 @@ fn read_asking<D: WrittenDate>(
     date: &str,
     words: &[&str],
 ) -> Result<Result<Call<D>, NoSuchDate>, Reason>
-    ensures { result ≡ asking (written date.now) (spelled words.now) }
+    ensures { result ≡ asking (D.written date.now) (spelled words.now) }
 {
     let date = D::read(date).ok_or(Reason::NotDate)?;
     let question = read_question(words)?;
@@ -38,7 +38,7 @@ fn read_asking<D: WrittenDate>(
 
 // A date that does not exist is no error of the script: its call is refused.
 pub fn read_call<D: WrittenDate>(words: &[&str]) -> Result<Result<Call<D>, NoSuchDate>, Reason>
-    ensures { result ≡ call written (spelled words.now) }
+    ensures { result ≡ call D.written (spelled words.now) }
 {
     match words {
         ["enter", date, operation @ ..] => read_entering(date, operation),

@@ -89,7 +89,7 @@ fn read_head(heap: Global, lines: &[&str]) -> Result<(Kind, usize), ScriptFault>
 
 // None for a line with no words.
 fn read_line<D: WrittenDate>(words: &[&str]) -> Result<Option<Result<Call<D>, NoSuchDate>>, Reason>
-    ensures { result ≡ line_call written (spelled words.now) }
+    ensures { result ≡ line_call D.written (spelled words.now) }
 {
     if words.is_empty() {
         return Ok(None);
@@ -103,7 +103,7 @@ fn call_at<D: WrittenDate>(
     line: &str,
     number: usize,
 ) -> Result<Option<Result<Call<D>, NoSuchDate>>, ScriptFault>
-    ensures { Agrees (λ x. x) result (at_line number (line_call written (words line.now))) }
+    ensures { Agrees (λ x. x) result (at_line number (line_call D.written (words line.now))) }
 {
     let words = words_of(heap, line)?;
     match read_line(words.as_slice()) {
@@ -118,7 +118,7 @@ fn read_calls<D: WrittenDate>(
     lines: &[&str],
     from: usize,
 ) -> Result<Vec<Line<D>>, ScriptFault>
-    ensures { Agrees vec_items result (calls written from (drop from (spelled lines.now))) }
+    ensures { Agrees vec_items result (calls D.written from (drop from (spelled lines.now))) }
 {
     let mut found = Vec::new(heap);
     for i in from..lines.len() {

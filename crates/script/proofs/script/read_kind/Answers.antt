@@ -12,8 +12,8 @@ returns-in-survey c = let long : length c.args.words.now ≡ 1 = search rules in
 pub returns-in_default : goal.returns-in_default
 returns-in_default c = let long : length c.args.words.now ≡ 0 = search rules in rw (none _ long) (search rules)
 
-pub returns-in_default·2 : goal.returns-in_default·2
-returns-in_default·2 c = let long : length c.args.words.now ≡ 1 = search rules in rw (one _ long) (search (rules, bytes_eq-Decides))
+pub returns-in_default-2 : goal.returns-in_default-2
+returns-in_default-2 c = let long : length c.args.words.now ≡ 1 = search rules in rw (one _ long) (search (rules, bytes_eq-Decides))
 
-pub returns-in_default·3 : goal.returns-in_default·3
-returns-in_default·3 c = let long : 2 ≤ length c.args.words.now = search rules in rw (two_up _ long) (search rules)
+pub returns-in_default-3 : goal.returns-in_default-3
+returns-in_default-3 c = let long : 2 ≤ length c.args.words.now = search rules in rw (two_up _ long) (search rules)
