@@ -1,5 +1,6 @@
 // The slots of a shelf, and the tree that is chained in them.
 #![tactic(auto)]
+
 pub mod figures;
 pub mod slot;
 pub mod tree;

@@ -8,9 +8,9 @@ use Rattle.slots.proofs.figures.figures_over.Goals as goal
 
 pub returns : goal.returns
 returns g c es a b tied ha hb few =
-    let model = g.Summary.Summary.model in
+    let model = g.W.Summary.Summary.model in
     let summed = g.W.Watch.summed c.args.watch.now in
-    let law = g.met.Summary.Summary.lawful in
+    let law = g.met.W.Summary.Summary.lawful in
     let shelf = c.args.shelf.now in
     let here = ap entry (get_or_default shelf c.args.top c.index-shelf-top.result (blank model) c.requires) ∙ tied c.args.top in
     let level_a = level_of model summed es shelf c.args.left a ha in
@@ -22,8 +22,8 @@ returns g c es a b tied ha hb few =
     let light = own_light model law summed (g.met.W.Watch.rules c.args.watch.now).light es in
     let same = ap (contribution model summed) here in
     let contribution_i : ◌≡◌ {A = g.row.W-Summary.Denot} c.contribution.result (contribution model summed (es c.args.top)) = cc in
-    let weight_a = ap model.weight (c.joined-at.ensures ∙ joined_a) in
-    let weight_b = ap model.weight (c.joined-at-2.ensures ∙ joined_b) in
+    let weight_a = ap model.weight (c.joined_at.ensures ∙ joined_a) in
+    let weight_b = ap model.weight (c.joined_at-2.ensures ∙ joined_b) in
     let weight_i = ap model.weight contribution_i in
     let light_a = tree_light model law (own model summed es) light a (omega arith) in
     let light_b = tree_light model law (own model summed es) light b (omega arith) in
@@ -35,5 +35,5 @@ returns g c es a b tied ha hb few =
     let stands = ap (λ e. e.standing) here in
     let deep = c.level_over.ensures in
     let counts = c.count_over.ensures ∙ count_fits _ _ _ (omega arith) (omega arith) in
-    let joins = c.joined-over.ensures (omega arith) in
+    let joins = c.joined_over.ensures (omega arith) in
     (omega arith, cc, cc)

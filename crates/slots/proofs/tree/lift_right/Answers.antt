@@ -5,15 +5,15 @@ use Rattle.slots.proofs.Lifts.{lift_right_leaf, lift_right_in, lift_right_out}
 use Rattle.slots.proofs.Chains.{then_kept}
 use Rattle.slots.proofs.tree.lift_right.Goals as goal
 
-pub returns-in-default : goal.returns-in-default
-returns-in-default g c = record { kept = c.put.ensures.kept; makes = lift_right_leaf _ _ _ _ _ _ _ _ c.in-default.ensures.lookup.3 c.put.ensures.makes }
+pub returns-in_default : goal.returns-in_default
+returns-in_default g c = record { kept = c.put.ensures.kept; makes = lift_right_leaf _ _ _ _ _ _ _ _ c.in_default.ensures.lookup.3 c.put.ensures.makes }
 
-pub returns-then-level-at : goal.returns-then-level-at
-returns-then-level-at g c =
-    let up = get_or_read c.args.shelf.now c.args.right c.in-Some.up.now c.in-Some.ensures.lookup.3.0 c.in-Some.ensures.lookup.1 (blank g.Summary.Summary.model) in
-    record { kept = then_kept _ _ _ _ c.turn-right-side.ensures.kept c.turn_left.ensures.kept; makes = lift_right_in _ _ _ _ _ _ _ _ _ _ c.in-Some.ensures.lookup.3.0 _ up c.turn-right-side.ensures.kept (omega arith) c.turn-right-side.ensures.makes c.turn_left.ensures.makes }
+pub returns-then-level_at : goal.returns-then-level_at
+returns-then-level_at g c =
+    let up = get_or_read c.args.shelf.now c.args.right c.in-Some.up.now c.in-Some.ensures.lookup.3.0 c.in-Some.ensures.lookup.1 (blank g.W.Summary.Summary.model) in
+    record { kept = then_kept _ _ _ _ c.turn_right-side.ensures.kept c.turn_left.ensures.kept; makes = lift_right_in _ _ _ _ _ _ _ _ _ _ c.in-Some.ensures.lookup.3.0 _ up c.turn_right-side.ensures.kept (omega arith) c.turn_right-side.ensures.makes c.turn_left.ensures.makes }
 
-pub returns-else-level-at : goal.returns-else-level-at
-returns-else-level-at g c =
-    let up = get_or_read c.args.shelf.now c.args.right c.in-Some.up.now c.in-Some.ensures.lookup.3.0 c.in-Some.ensures.lookup.1 (blank g.Summary.Summary.model) in
-    record { kept = c.turn-left-else-level-at.ensures.kept; makes = lift_right_out _ _ _ _ _ _ _ _ c.in-Some.ensures.lookup.3.0 _ up (omega arith) c.turn-left-else-level-at.ensures.makes }
+pub returns-else-level_at : goal.returns-else-level_at
+returns-else-level_at g c =
+    let up = get_or_read c.args.shelf.now c.args.right c.in-Some.up.now c.in-Some.ensures.lookup.3.0 c.in-Some.ensures.lookup.1 (blank g.W.Summary.Summary.model) in
+    record { kept = c.turn_left-else-level_at.ensures.kept; makes = lift_right_out _ _ _ _ _ _ _ _ c.in-Some.ensures.lookup.3.0 _ up (omega arith) c.turn_left-else-level_at.ensures.makes }

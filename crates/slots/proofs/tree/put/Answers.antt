@@ -9,7 +9,7 @@ returns-then-top-shelf g c = record { refused = λ _. (refl, refl); kept = all_k
 
 pub returns : goal.returns
 returns g c =
-    let model = g.Summary.Summary.model in
+    let model = g.W.Summary.Summary.model in
     let shelf = c.args.shelf.now in
     let within = c.if-top-shelf.false in
     let read = get_or_default shelf c.args.top c.index-shelf-top.result (blank model) within in
@@ -17,6 +17,6 @@ returns g c =
       refused = λ past. absurd (omega arith);
       kept = set_keeps model shelf _ c.args.top within (ap entry read);
       makes = λ es a b tied ha hb inside once few.
-          let new = c.figures-over-figures.ensures es a b tied ha hb few in
+          let new = c.figures_over-figures.ensures es a b tied ha hb few in
           put_forms model (g.W.Watch.summed c.args.watch.now) es shelf _ c.args.top a b within new.0 new.1 new.2 ha hb once;
     }

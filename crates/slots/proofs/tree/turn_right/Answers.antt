@@ -4,10 +4,10 @@ use Rattle.slots.proofs.Turns.{turn_right_leaf, turn_right_node}
 use Rattle.slots.proofs.Chains.{then_kept}
 use Rattle.slots.proofs.tree.turn_right.Goals as goal
 
-pub returns-in-default : goal.returns-in-default
-returns-in-default g c = record { kept = c.put.ensures.kept; makes = turn_right_leaf _ _ _ _ _ _ _ _ c.in-default.ensures.lookup.3 c.put.ensures.makes }
+pub returns-in_default : goal.returns-in_default
+returns-in_default g c = record { kept = c.put.ensures.kept; makes = turn_right_leaf _ _ _ _ _ _ _ _ c.in_default.ensures.lookup.3 c.put.ensures.makes }
 
 pub returns : goal.returns
 returns g c =
-    let up = get_or_read c.args.shelf.now c.args.left c.in-Some.up.now c.in-Some.ensures.lookup.3.0 c.in-Some.ensures.lookup.1 (blank g.Summary.Summary.model) in
+    let up = get_or_read c.args.shelf.now c.args.left c.in-Some.up.now c.in-Some.ensures.lookup.3.0 c.in-Some.ensures.lookup.1 (blank g.W.Summary.Summary.model) in
     record { kept = then_kept _ _ _ _ c.put-low.ensures.kept c.put-2.ensures.kept; makes = turn_right_node _ _ _ _ _ _ _ _ _ _ c.in-Some.ensures.lookup.3.0 _ up c.put-low.ensures.kept c.put-low.ensures.makes c.put-2.ensures.makes }
