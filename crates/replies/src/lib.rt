@@ -1,5 +1,6 @@
 // The answers to the calls of a script: worked off on a new book, and written as text.
 #![tactic(auto)]
+
 pub mod reply;
 pub mod transcript;
 pub mod work;

@@ -34,7 +34,7 @@ fn print_lines<D: Date, M: Machine>(heap: Global, lines: &[Line<D>]) -> Result<S
 
 // What a script prints, worked off on a new book.
 pub fn print_script<M: Machine>(heap: Global, text: &str) -> Result<String, ScriptFault>
-    ensures { Agrees string_bytes result (transcript model text.now) }
+    ensures { Agrees string_bytes result (transcript M.model text.now) }
 {
     match parse(heap, text)? {
         Script::OfDays(lines) => Ok(print_lines::<_, M>(heap, lines.as_slice())?),

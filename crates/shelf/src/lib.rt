@@ -1,6 +1,7 @@
 // A book's entries on a shelf: slots chained as a balanced tree in book order. No call takes memory, and each goes down one
 // way of at most 14 levels, whatever the shelf holds.
 #![tactic(auto)]
+
 pub mod dating;
 pub mod reading;
 pub mod writing;

@@ -4,4 +4,4 @@ use Rattle.replies.proofs.transcript.print_lines.Goals as goal
 
 pub returns : goal.returns
 returns g c =
-    subst (λ given. IfOk c.print-replies.result (λ text. string_bytes text ≡ output given)) (c.as-slice.ensures.value ∙ c.in-ok-replies.ensures.replies) c.print-replies.ensures
+    subst (λ given. IfOk c.print_replies.result (λ text. string_bytes text ≡ output given)) (c.as_slice.ensures.value ∙ c.in_ok-replies.ensures.replies) c.print_replies.ensures

@@ -6,17 +6,17 @@ use Rattle.replies.proofs.work.work_off.Goals as goal
 
 pub loop-line-preserved : goal.loop-line-preserved
 loop-line-preserved g c =
-    worked_more g.D.Date.model g.M.Machine.model _ _ c.args.lines.now c.loop-line.line-index c.line-item.result (vec_items c.loop-line.given) _ c.in-ok-reply.reply c.loop-line-test.true c.line-item.is c.in-ok-push.ensures.items c.in-ok-reply.ensures c.loop-line.invariant
+    worked_more g.D.Date.model g.M.Machine.model _ _ c.args.lines.now c.loop-line.line-index c.line-item.result (vec_items c.loop-line.given) _ c.in_ok-reply.reply c.loop-line-test.true c.line-item.is c.in_ok-push.ensures.items c.in_ok-reply.ensures c.loop-line.invariant
 
-pub returns-in-err-reply : goal.returns-in-err-reply
-returns-in-err-reply g c = record {
-  replies = IfOk-from_err _ _ c.from-residual.ensures.0;
+pub returns-in_err-reply : goal.returns-in_err-reply
+returns-in_err-reply g c = record {
+  replies = IfOk-from_err _ _ c.from_residual.ensures.0;
   ordered = in_order g.D.Date.model g.M.Machine.model g.met.D.Date.lawful c.args.lines.now;
 }
 
-pub returns-in-err-push : goal.returns-in-err-push
-returns-in-err-push g c = record {
-  replies = IfOk-from_err _ _ c.from-residual-in-err-push.ensures.0;
+pub returns-in_err-push : goal.returns-in_err-push
+returns-in_err-push g c = record {
+  replies = IfOk-from_err _ _ c.from_residual-in_err-push.ensures.0;
   ordered = in_order g.D.Date.model g.M.Machine.model g.met.D.Date.lawful c.args.lines.now;
 }
 

@@ -4,18 +4,18 @@ use Rattle.slots.specs.Slots.{blank}
 use Rattle.shelf.proofs.Readings.{counts_leaf, counts_none, counts_left, counts_right}
 use Rattle.shelf.proofs.reading.+count_ahead.Goals as goal
 
-pub returns-in-default : goal.returns-in-default
-returns-in-default g t c = record { counts = counts_leaf g.S.Summary.model g.D.Date.model c.args.date.now c.args.number c.args.shelf.now c.args.link c.args.depth c.in-default.ensures.lookup.3 }
+pub returns-in_default : goal.returns-in_default
+returns-in_default g t c = record { counts = counts_leaf g.S.Summary.model g.D.Date.model c.args.date.now c.args.number c.args.shelf.now c.args.link c.args.depth c.in_default.ensures.lookup.3 }
 
 pub returns-then-depth-eq0 : goal.returns-then-depth-eq0
 returns-then-depth-eq0 g t c = record { counts = counts_none g.S.Summary.model g.D.Date.model c.args.date.now c.args.number c.args.shelf.now c.args.link c.args.depth _ c.in-Some.ensures.lookup.3.0 c.if-depth-eq0.true }
 
-pub returns-then-is-ahead : goal.returns-then-is-ahead
-returns-then-is-ahead g t c =
+pub returns-then-is_ahead : goal.returns-then-is_ahead
+returns-then-is_ahead g t c =
     let node = get_or_read c.args.shelf.now c.args.link c.in-Some.node.now c.in-Some.ensures.lookup.3.0 c.in-Some.ensures.lookup.1 (blank g.S.Summary.model) in
-    record { counts = counts_right g.S.Summary.model g.D.Date.model c.args.date.now c.args.number c.args.shelf.now c.args.link c.args.depth c.in-Some.ensures.lookup.3.0 (omega arith) _ node _ _ _ c.count-at.ensures c.count_over.ensures (cc) c.count-ahead-rest.ensures.counts }
+    record { counts = counts_right g.S.Summary.model g.D.Date.model c.args.date.now c.args.number c.args.shelf.now c.args.link c.args.depth c.in-Some.ensures.lookup.3.0 (omega arith) _ node _ _ _ c.count_at.ensures c.count_over.ensures (cc) c.count_ahead-rest.ensures.counts }
 
-pub returns-else-is-ahead : goal.returns-else-is-ahead
-returns-else-is-ahead g t c =
+pub returns-else-is_ahead : goal.returns-else-is_ahead
+returns-else-is_ahead g t c =
     let node = get_or_read c.args.shelf.now c.args.link c.in-Some.node.now c.in-Some.ensures.lookup.3.0 c.in-Some.ensures.lookup.1 (blank g.S.Summary.model) in
-    record { counts = counts_left g.S.Summary.model g.D.Date.model c.args.date.now c.args.number c.args.shelf.now c.args.link c.args.depth c.in-Some.ensures.lookup.3.0 (omega arith) _ node _ (cc) c.count-ahead.ensures.counts }
+    record { counts = counts_left g.S.Summary.model g.D.Date.model c.args.date.now c.args.number c.args.shelf.now c.args.link c.args.depth c.in-Some.ensures.lookup.3.0 (omega arith) _ node _ (cc) c.count_ahead.ensures.counts }

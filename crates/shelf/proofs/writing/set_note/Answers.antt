@@ -5,8 +5,8 @@ use Rattle.shelf.specs.Changes.{with_note}
 use Rattle.shelf.proofs.Sounds.{renoted}
 use Rattle.shelf.proofs.writing.set_note.Goals as goal
 
-pub returns-in-default : goal.returns-in-default
-returns-in-default g c = record { noted = sym (set_past c.args.shelf.now c.args.i _ c.in-default.ensures.lookup.3); sound = λ summed root n sound. sound }
+pub returns-in_default : goal.returns-in_default
+returns-in_default g c = record { noted = sym (set_past c.args.shelf.now c.args.i _ c.in_default.ensures.lookup.3); sound = λ summed root n sound. sound }
 
 pub returns : goal.returns
 returns g c =
