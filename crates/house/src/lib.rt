@@ -1,5 +1,6 @@
 // The house book: its machine is a tally paired with a pair of queue and board.
 #![tactic(auto)]
+
 ghost use Rattle.std.specs.Prelude.{string_bytes};
 ghost use Rattle.script.specs.Scripts.{Agrees};
 ghost use Rattle.replies.specs.Transcripts.{transcript};

@@ -1,5 +1,6 @@
 // Reads a script, works it off on a new house book, and prints its answers.
 #![tactic(auto)]
+
 use anyhow::anyhow;
 use house::print_house_script;
 use std::{env, fs, io};

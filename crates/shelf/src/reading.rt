@@ -102,7 +102,7 @@ pub fn figure_up_to<D: Date, W: Watch>(
     date: &D,
     watch: &W,
 ) -> i64
-    ensures read { ReadsUpTo D.Date.model W.Summary.Summary.model shelf.now root Machine-as-Machine.model (W.Watch.question watch.now) (W.Watch.summed watch.now) date.now result }
+    ensures read { ReadsUpTo D.Date.model W.Summary.Summary.model shelf.now root W.Machine.Machine.model (W.Watch.question watch.now) (W.Watch.summed watch.now) date.now result }
 {
     watch.figure(&joined_up_to(shelf, root, date, watch))
 }

@@ -4,6 +4,7 @@
 // The modules are tests of the dates, the machines and the scripts at their edges: the last value that is taken and the
 // first that is not.
 #![tactic(auto)]
+
 #[cfg(test)]
 mod bad_lines;
 #[cfg(test)]

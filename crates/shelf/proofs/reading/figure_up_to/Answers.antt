@@ -15,7 +15,7 @@ returns g c = record {
       let es = entries model c.args.shelf.now in
       let few = few_up_to dates g.met.D.Date.lawful c.args.date.now es n in
       let most = sound.few in
-      figure_reads g.Machine.Machine.model model g.met.W.Summary.Summary.lawful (g.W.Watch.question watch) (g.W.Watch.summed watch) (g.W.Watch.figure watch) (g.met.W.Watch.rules watch) es (standing_up_to dates es n c.args.date.now) (omega arith)
+      figure_reads g.W.Machine.Machine.model model g.met.W.Summary.Summary.lawful (g.W.Watch.question watch) (g.W.Watch.summed watch) (g.W.Watch.figure watch) (g.met.W.Watch.rules watch) es (standing_up_to dates es n c.args.date.now) (omega arith)
       ∙ ap (λ s. Some (g.W.Watch.figure watch s)) (sym (c.joined_up_to.ensures.joined n sound))
       ∙ ap Some (sym (to_z-of_z w64 c.figure.result (record { sfits = c.figure.type_inv }) ∙ c.figure.ensures));
 }
