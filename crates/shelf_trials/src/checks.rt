@@ -1,6 +1,7 @@
 // Whether slots are as they were.
 use machines::{Note, Operation};
 use slots::Slot;
+use std::process::Abort;
 use std::test::Fail;
 use watches::Sum;
 
@@ -32,11 +33,16 @@ fn is_same_placement(old: &Slot<Sum>, new: &Slot<Sum>) -> bool {
 }
 
 // Each slot is as it was.
-pub(crate) fn all_is_kept(before: &[Slot<Sum>], after: &[Slot<Sum>]) -> Result<(), Fail> {
+pub(crate) fn all_is_kept(
+    rt: &impl Abort,
+    before: &[Slot<Sum>],
+    after: &[Slot<Sum>],
+) -> Result<(), Fail> {
     for (i, (old, new)) in before.iter().zip(after).enumerate() {
-        check(is_same_entry(old, new) && is_same_placement(old, new)).note(format_args!(
+        assert!(rt;
+            is_same_entry(old, new) && is_same_placement(old, new),
             "slot {i}"
-        ))?;
+        );
     }
     Ok(())
 }

@@ -23,7 +23,7 @@ fn the_1_025th_entry_is_refused_though_there_is_a_slot(rt: HostRuntime) -> Resul
         add(&mut shelf, root, 1_024, &day(1), change(1), &watch),
         None
     );
-    all_is_kept(&before, &shelf)
+    all_is_kept(&rt, &before, &shelf)
 }
 
 #[test]
@@ -37,11 +37,11 @@ fn an_entry_past_the_shelf_is_refused(rt: HostRuntime) -> Result<(), Fail> {
         add(&mut shelf, root, u16::MAX, &day(4), change(1), &watch),
         None
     );
-    all_is_kept(&before, &shelf)
+    all_is_kept(&rt, &before, &shelf)
 }
 
 #[test]
-fn a_number_past_the_shelf_is_neither_voided_nor_noted() -> Result<(), Fail> {
+fn a_number_past_the_shelf_is_neither_voided_nor_noted(rt: HostRuntime) -> Result<(), Fail> {
     let watch = cell(0)?;
     let mut shelf = [Slot::blank(); 3];
     let root = fill_days(&mut shelf, &[1, 2, 3], &watch)?;
@@ -50,7 +50,7 @@ fn a_number_past_the_shelf_is_neither_voided_nor_noted() -> Result<(), Fail> {
     void::<DayNumber, CellWatch>(&mut shelf, root, u16::MAX, &watch);
     set_note::<DayNumber, Sum>(&mut shelf, 3, Note::Moved(7));
     set_note::<DayNumber, Sum>(&mut shelf, u16::MAX, Note::Moved(7));
-    all_is_kept(&before, &shelf)
+    all_is_kept(&rt, &before, &shelf)
 }
 
 #[test]
@@ -61,22 +61,22 @@ fn voiding_again_changes_nothing_more(rt: HostRuntime) -> Result<(), Fail> {
     void::<DayNumber, CellWatch>(&mut shelf, root, 1, &watch);
     let before = shelf;
     void::<DayNumber, CellWatch>(&mut shelf, root, 1, &watch);
-    all_is_kept(&before, &shelf)?;
+    all_is_kept(&rt, &before, &shelf)?;
     assert_eq!(rt; count_at(&shelf, root), 2);
     Ok(())
 }
 
 #[test]
-fn a_note_changes_nothing_else() -> Result<(), Fail> {
+fn a_note_changes_nothing_else(rt: HostRuntime) -> Result<(), Fail> {
     let mut shelf = [Slot::blank(); 3];
     let _root = fill_days(&mut shelf, &[3, 1, 2], &cell(0)?)?;
     let mut noted = shelf;
     noted[1].note = Note::Moved(7);
     set_note::<DayNumber, Sum>(&mut shelf, 1, Note::Moved(7));
-    all_is_kept(&noted, &shelf)?;
+    all_is_kept(&rt, &noted, &shelf)?;
     noted[1].note = Note::Idle;
     set_note::<DayNumber, Sum>(&mut shelf, 1, Note::Idle);
-    all_is_kept(&noted, &shelf)
+    all_is_kept(&rt, &noted, &shelf)
 }
 
 #[test]
@@ -97,5 +97,5 @@ fn a_slot_without_an_entry_keeps_its_content(rt: HostRuntime) -> Result<(), Fail
     let root = fill_days(&mut shelf, &[1, 3, 2], &watch)?;
     void::<DayNumber, CellWatch>(&mut shelf, root, 0, &watch);
     assert_eq!(rt; (level_at(&shelf, root), count_at(&shelf, root)), (2, 2));
-    all_is_kept(&[content], &shelf[3..])
+    all_is_kept(&rt, &[content], &shelf[3..])
 }

@@ -3,6 +3,7 @@
 //
 // The other modules are tests of the calls on small shelves: where an entry goes, and what is at the edges.
 #![tactic(auto)]
+
 #[cfg(test)]
 mod checks;
 #[cfg(test)]

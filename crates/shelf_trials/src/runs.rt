@@ -76,45 +76,45 @@ fn has_links<S: Summary>(shelf: &[Slot<S>], i: u16, left: u16, right: u16) -> bo
     (i as usize) < shelf.len() && shelf[i as usize].left == left && shelf[i as usize].right == right
 }
 
+// Expects what the act of that index says.
 fn expect<W: Watch>(
     rt: &impl Abort,
     heap: Global,
     shelf: &[Slot<W::Summary>],
     root: u16,
     watch: &W,
+    i: usize,
     act: Act,
 ) -> Result<(), Fail> {
     match act {
         Act::Finds(k, slot) => {
-            assert_eq!(rt; find::<DayNumber, W::Summary>(shelf, root, k), slot);
+            let found = find::<DayNumber, W::Summary>(shelf, root, k);
+            assert_eq!(rt; found, slot, "act {i}");
             Ok(())
-        },
+        }
         Act::CountsUpTo(number, count) => {
-            assert_eq!(rt; count_up_to(shelf, root, &day(number)), count);
+            assert_eq!(rt; count_up_to(shelf, root, &day(number)), count, "act {i}");
             Ok(())
-        },
-        Act::CountsBefore(i, count) => {
-            assert_eq!(rt;
-                count_before::<DayNumber, W::Summary>(shelf, root, i),
-                count
-            );
+        }
+        Act::CountsBefore(slot, count) => {
+            let before = count_before::<DayNumber, W::Summary>(shelf, root, slot);
+            assert_eq!(rt; before, count, "act {i}");
             Ok(())
         }
         Act::Figures(number, figure) => {
-            assert_eq!(rt; figure_up_to(shelf, root, &day(number), watch), figure);
-            assert_eq!(rt;
-                stepped(heap, shelf, root, day(number), watch)?,
-                Some(figure)
-            );
+            let date = day(number);
+            assert_eq!(rt; figure_up_to(shelf, root, &date, watch), figure, "act {i}");
+            let read = stepped(heap, shelf, root, date, watch)?;
+            assert_eq!(rt; read, Some(figure), "act {i}");
             Ok(())
         }
         Act::Root(top) => {
-            assert_eq!(rt; root, top);
+            assert_eq!(rt; root, top, "act {i}");
             Ok(())
-        },
-        Act::Links(i, left, right, levels) => {
-            assert!(rt; has_links(shelf, i, left, right));
-            assert_eq!(rt; level_at(shelf, i), levels);
+        }
+        Act::Links(slot, left, right, levels) => {
+            assert!(rt; has_links(shelf, slot, left, right), "act {i}");
+            assert_eq!(rt; level_at(shelf, slot), levels, "act {i}");
             Ok(())
         }
         Act::Enters(_, _, _, _) | Act::Voids(_) => Ok(()),
@@ -145,7 +145,7 @@ fn do_act<W: Watch>(
             Ok(owner)
         }
         _ => {
-            expect(rt, heap, shelf, owner.root, watch, act).note(format_args!("act {i}"))?;
+            expect(rt, heap, shelf, owner.root, watch, i, act)?;
             Ok(owner)
         }
     }

@@ -2,7 +2,7 @@
 use script::{ScriptFault, parse};
 use std::alloc::Global;
 use std::process::Abort;
-use std::test::{Fail, assert_eq};
+use std::test::Fail;
 
 const NO_COMMAND: &str = "no such command, or not its number of words";
 
@@ -31,8 +31,8 @@ fn is_bad(
         Ok(_) => Err(Fail::new("the script is read")),
         Err(ScriptFault::NoMemory) => Err(Fail::new("no memory")),
         Err(ScriptFault::BadLine(number, found)) => {
-            assert_eq!(rt; number, line);
-            assert_eq!(rt; found.to_string(heap)?, reason);
+            assert_eq!(rt; number, line, "{text}");
+            assert_eq!(rt; found.to_string(heap)?.as_str(), reason, "{text}");
             Ok(())
         }
     }
@@ -47,7 +47,7 @@ fn are_bad(
     texts: &[&str],
 ) -> Result<(), Fail> {
     for text in texts {
-        is_bad(rt, heap, text, line, reason).note(*text)?;
+        is_bad(rt, heap, text, line, reason)?;
     }
     Ok(())
 }

@@ -7,6 +7,7 @@ use std::test::Fail;
 #[test]
 fn a_new_counter_has_counted_nothing(rt: HostRuntime) -> Result<(), Fail> {
     run::<Tally>(
+        &rt,
         rt.alloc(),
         &[
             Act::Counts(0, 0),
@@ -19,6 +20,7 @@ fn a_new_counter_has_counted_nothing(rt: HostRuntime) -> Result<(), Fail> {
 #[test]
 fn steps_back_and_forward_are_counted_apart(rt: HostRuntime) -> Result<(), Fail> {
     run::<Tally>(
+        &rt,
         rt.alloc(),
         &[
             Act::Steps(CHANGE, 0, 5, Some(0)),
@@ -34,6 +36,7 @@ fn steps_back_and_forward_are_counted_apart(rt: HostRuntime) -> Result<(), Fail>
 #[test]
 fn an_idle_step_and_its_taking_back_are_counted(rt: HostRuntime) -> Result<(), Fail> {
     run::<Queue>(
+        &rt,
         rt.alloc(),
         &[
             Act::Steps(DRAW, 0, 0, None),
@@ -47,6 +50,7 @@ fn an_idle_step_and_its_taking_back_are_counted(rt: HostRuntime) -> Result<(), F
 #[test]
 fn begin_counts_from_0_and_leaves_the_machine(rt: HostRuntime) -> Result<(), Fail> {
     run::<Tally>(
+        &rt,
         rt.alloc(),
         &[
             Act::Steps(CHANGE, 0, 5, Some(0)),
@@ -66,6 +70,7 @@ fn begin_counts_from_0_and_leaves_the_machine(rt: HostRuntime) -> Result<(), Fai
 #[test]
 fn every_step_of_a_long_run_is_counted(rt: HostRuntime) -> Result<(), Fail> {
     run::<Pair<Tally, Pair<Queue, Board>>>(
+        &rt,
         rt.alloc(),
         &[
             Act::Repeats(ORDER, 0, 0, 1024),

@@ -1,7 +1,7 @@
 // The order and the bytes of day numbers.
 use dates::{Date, DayNumber};
 use std::process::Abort;
-use std::test::{Fail, assert_eq};
+use std::test::Fail;
 
 // The day of the number has these bytes, and they are of this day.
 fn has_bytes(rt: &impl Abort, number: i32, bytes: [u8; 4]) -> Result<(), Fail> {

@@ -4,7 +4,7 @@ use dates::{Date, DayNumber, SurveyDate};
 use script::{Line, Script, ScriptFault, parse};
 use std::alloc::{AllocError, Global};
 use std::process::Abort;
-use std::test::{Fail, assert_eq};
+use std::test::Fail;
 
 // A date as a script writes it, with every part.
 trait Shown: Copy {
@@ -68,12 +68,12 @@ fn is_read(
     match parse(heap, text) {
         Ok(Script::OfDays(lines)) => {
             assert_eq!(rt; kind, "days");
-            assert_eq!(rt; all_in_full(heap, lines.as_slice())?, expected);
+            assert_eq!(rt; all_in_full(heap, lines.as_slice())?.as_str(), expected);
             Ok(())
         }
         Ok(Script::OfSurveys(lines)) => {
             assert_eq!(rt; kind, "survey");
-            assert_eq!(rt; all_in_full(heap, lines.as_slice())?, expected);
+            assert_eq!(rt; all_in_full(heap, lines.as_slice())?.as_str(), expected);
             Ok(())
         }
         Err(ScriptFault::BadLine(number, _)) => Err(Fail::new(format_args!(

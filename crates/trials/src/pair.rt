@@ -7,6 +7,7 @@ use std::test::Fail;
 #[test]
 fn the_first_takes_what_both_know(rt: HostRuntime) -> Result<(), Fail> {
     run::<Pair<Tally, Inset<Tally, 32>>>(
+        &rt,
         rt.alloc(),
         &[
             Act::Steps(CHANGE, 63, 5, Some(0)),
@@ -20,6 +21,7 @@ fn the_first_takes_what_both_know(rt: HostRuntime) -> Result<(), Fail> {
 #[test]
 fn the_second_takes_what_the_first_does_not_know(rt: HostRuntime) -> Result<(), Fail> {
     run::<Pair<Tally, Inset<Tally, 32>>>(
+        &rt,
         rt.alloc(),
         &[
             Act::Steps(CHANGE, 64, 5, Some(0)),
@@ -32,20 +34,24 @@ fn the_second_takes_what_the_first_does_not_know(rt: HostRuntime) -> Result<(), 
 }
 
 #[test]
-fn a_code_unknown_to_both_is_unknown_to_the_pair() -> Result<(), Fail> {
-    hold::<Pair<Tally, Pair<Queue, Board>>>(&[
-        Fact::Unknown(0, 0, 0),
-        Fact::Unknown(5, 0, 0),
-        Fact::Unknown(u16::MAX, 0, 0),
-        Fact::Unanswered(0, 0, 0),
-        Fact::Unanswered(5, 0, 0),
-        Fact::Unanswered(u16::MAX, 0, 0),
-    ])
+fn a_code_unknown_to_both_is_unknown_to_the_pair(rt: HostRuntime) -> Result<(), Fail> {
+    hold::<Pair<Tally, Pair<Queue, Board>>>(
+        &rt,
+        &[
+            Fact::Unknown(0, 0, 0),
+            Fact::Unknown(5, 0, 0),
+            Fact::Unknown(u16::MAX, 0, 0),
+            Fact::Unanswered(0, 0, 0),
+            Fact::Unanswered(5, 0, 0),
+            Fact::Unanswered(u16::MAX, 0, 0),
+        ],
+    )
 }
 
 #[test]
 fn a_step_unknown_to_both_is_idle(rt: HostRuntime) -> Result<(), Fail> {
     run::<Pair<Tally, Board>>(
+        &rt,
         rt.alloc(),
         &[
             Act::Steps(5, 0, 1, None),
@@ -60,6 +66,7 @@ fn a_question_that_the_first_does_not_answer_goes_to_the_second(
     rt: HostRuntime,
 ) -> Result<(), Fail> {
     run::<Pair<Tally, Pair<Queue, Board>>>(
+        &rt,
         rt.alloc(),
         &[
             Act::Steps(CHANGE, 0, 3, Some(0)),

@@ -4,7 +4,7 @@ use machines::{MachineFault, Operation, Question, check_operation, check_questio
 use primitives::Tally;
 use std::alloc::Global;
 use std::process::Abort;
-use std::test::{Fail, assert_eq};
+use std::test::Fail;
 
 // Refused by the machine, with this number and text; 0 is the number where nothing is refused.
 fn is_refused(
@@ -20,7 +20,7 @@ fn is_refused(
     };
     assert_eq!(rt; fault.number(), number);
     assert_eq!(rt; fault.giver(), "machine");
-    assert_eq!(rt; fault.to_string(heap)?, text);
+    assert_eq!(rt; fault.to_string(heap)?.as_str(), text);
     Ok(())
 }
 
@@ -44,7 +44,7 @@ fn count(place: u16) -> Question {
 fn no_such_date_is_refusal_1_of_the_date(rt: HostRuntime) -> Result<(), Fail> {
     assert_eq!(rt; NoSuchDate.number(), 1);
     assert_eq!(rt; NoSuchDate.giver(), "date");
-    assert_eq!(rt; NoSuchDate.to_string(rt.alloc())?, "no such date");
+    assert_eq!(rt; NoSuchDate.to_string(rt.alloc())?.as_str(), "no such date");
     Ok(())
 }
 

@@ -1,7 +1,8 @@
 // What the tests of the machines share: facts of what a machine knows and answers, and runs of steps.
 use machines::{Counter, Machine, Note, Operation, Question};
 use std::alloc::Global;
-use std::test::{Fail, assert, assert_eq};
+use std::process::Abort;
+use std::test::Fail;
 
 // What a kind of machine knows and answers. An operation is written by its code, place and amount, and a question by its
 // code, place and index.
@@ -66,9 +67,16 @@ impl<M: Machine> Trial<M> {
         Ok(number_of(note))
     }
 
-    fn repeat(&mut self, operation: Operation, times: usize) -> Result<(), Fail> {
+    fn repeat(
+        &mut self,
+        rt: &impl Abort,
+        i: usize,
+        operation: Operation,
+        times: usize,
+    ) -> Result<(), Fail> {
         for _ in 0..times {
-            assert!(self.step(operation)?.is_some());
+            let number = self.step(operation)?;
+            assert!(rt; number.is_some(), "act {i}");
         }
         Ok(())
     }
@@ -81,24 +89,27 @@ impl<M: Machine> Trial<M> {
         Ok(())
     }
 
-    fn act(&mut self, act: Act) -> Result<(), Fail> {
+    // Does the act of that index.
+    fn act(&mut self, rt: &impl Abort, i: usize, act: Act) -> Result<(), Fail> {
         match act {
             Act::Steps(code, place, amount, number) => {
-                assert_eq!(self.step(operation(code, place, amount))?, number);
+                let noted = self.step(operation(code, place, amount))?;
+                assert_eq!(rt; noted, number, "act {i}");
                 Ok(())
             }
             Act::Repeats(code, place, amount, times) => {
-                self.repeat(operation(code, place, amount), times)
+                self.repeat(rt, i, operation(code, place, amount), times)
             }
             Act::TakesBack => self.take_back(),
             Act::Reads(code, place, index, number) => {
-                assert_eq!(self.counter.read(&question(code, place, index)), number);
+                let read = self.counter.read(&question(code, place, index));
+                assert_eq!(rt; read, number, "act {i}");
                 Ok(())
             }
             Act::Counts(back, forward) => {
-                assert_eq!(self.counter.steps(), (back, forward));
+                assert_eq!(rt; self.counter.steps(), (back, forward), "act {i}");
                 Ok(())
-            },
+            }
             Act::Begins => {
                 self.counter.begin();
                 Ok(())
@@ -108,13 +119,13 @@ impl<M: Machine> Trial<M> {
 }
 
 // Does the acts, from the first on, to a new machine in a counter.
-pub(crate) fn run<M: Machine>(heap: Global, acts: &[Act]) -> Result<(), Fail> {
+pub(crate) fn run<M: Machine>(rt: &impl Abort, heap: Global, acts: &[Act]) -> Result<(), Fail> {
     let mut trial = Trial::<M> {
         counter: Counter::new(heap)?,
         steps: Vec::new(heap),
     };
     for (i, act) in acts.iter().enumerate() {
-        trial.act(*act).note(format_args!("act {i}"))?;
+        trial.act(rt, i, *act)?;
     }
     Ok(())
 }
@@ -129,9 +140,9 @@ fn is_true<M: Machine>(fact: Fact) -> bool {
 }
 
 // Each fact holds of the machines of this kind.
-pub(crate) fn hold<M: Machine>(facts: &[Fact]) -> Result<(), Fail> {
+pub(crate) fn hold<M: Machine>(rt: &impl Abort, facts: &[Fact]) -> Result<(), Fail> {
     for (i, fact) in facts.iter().enumerate() {
-        check(is_true::<M>(*fact)).note(format_args!("fact {i}"))?;
+        assert!(rt; is_true::<M>(*fact), "fact {i}");
     }
     Ok(())
 }

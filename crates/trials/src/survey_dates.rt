@@ -2,7 +2,7 @@
 use dates::{Date, SurveyDate};
 use std::cmp::Ordering;
 use std::process::Abort;
-use std::test::{Fail, assert, assert_eq};
+use std::test::Fail;
 
 fn date(year: u16, month: u8, day: u8) -> Result<SurveyDate, Fail> {
     match SurveyDate::new(year, month, day) {

@@ -3,29 +3,34 @@ use crate::runs::{Act, Fact, hold, run};
 use machines::{Inset, Machine, Pair};
 use primitives::{Board, CHANGE, Queue, Tally};
 use std::alloc::Global;
+use std::process::Abort;
 use std::test::Fail;
 
 // The cells of a kind of machine are at the places up to this one, and their amounts are -1,000,000 to 1,000,000.
-fn cells_end<M: Machine>(last: u16) -> Result<(), Fail> {
-    hold::<M>(&[
-        Fact::Known(CHANGE, last, 1_000_000),
-        Fact::Unknown(CHANGE, last, 1_000_001),
-        Fact::Unknown(CHANGE, last, i32::MAX),
-        Fact::Known(CHANGE, last, -1_000_000),
-        Fact::Unknown(CHANGE, last, -1_000_001),
-        Fact::Unknown(CHANGE, last, i32::MIN),
-        Fact::Answered(CHANGE, last, 0),
-        Fact::Unanswered(CHANGE, last, 1),
-        Fact::Unanswered(CHANGE, last, -1),
-        Fact::Unknown(CHANGE, last.wrapping_add(1), 1),
-        Fact::Unanswered(CHANGE, last.wrapping_add(1), 0),
-    ])
+fn cells_end<M: Machine>(rt: &impl Abort, last: u16) -> Result<(), Fail> {
+    hold::<M>(
+        rt,
+        &[
+            Fact::Known(CHANGE, last, 1_000_000),
+            Fact::Unknown(CHANGE, last, 1_000_001),
+            Fact::Unknown(CHANGE, last, i32::MAX),
+            Fact::Known(CHANGE, last, -1_000_000),
+            Fact::Unknown(CHANGE, last, -1_000_001),
+            Fact::Unknown(CHANGE, last, i32::MIN),
+            Fact::Answered(CHANGE, last, 0),
+            Fact::Unanswered(CHANGE, last, 1),
+            Fact::Unanswered(CHANGE, last, -1),
+            Fact::Unknown(CHANGE, last.wrapping_add(1), 1),
+            Fact::Unanswered(CHANGE, last.wrapping_add(1), 0),
+        ],
+    )
 }
 
 // 2,000 changes by a million, up or down, reach the last count. One more by 1 is idle and leaves it, and so does its taking
 // back; the taking back of the last change restores the count before.
-fn counts_end<M: Machine>(heap: Global, place: u16) -> Result<(), Fail> {
+fn counts_end<M: Machine>(rt: &impl Abort, heap: Global, place: u16) -> Result<(), Fail> {
     run::<M>(
+        rt,
         heap,
         &[
             Act::Repeats(CHANGE, place, 1_000_000, 2000),
@@ -49,38 +54,43 @@ fn counts_end<M: Machine>(heap: Global, place: u16) -> Result<(), Fail> {
 }
 
 #[test]
-fn the_cells_of_a_tally_end_at_63_and_its_amounts_at_a_million() -> Result<(), Fail> {
-    cells_end::<Tally>(63)
+fn the_cells_of_a_tally_end_at_63_and_its_amounts_at_a_million(
+    rt: HostRuntime,
+) -> Result<(), Fail> {
+    cells_end::<Tally>(&rt, 63)
 }
 
 #[test]
-fn the_cells_of_a_pair_end_at_63_and_its_amounts_at_a_million() -> Result<(), Fail> {
-    cells_end::<Pair<Tally, Pair<Queue, Board>>>(63)
+fn the_cells_of_a_pair_end_at_63_and_its_amounts_at_a_million(rt: HostRuntime) -> Result<(), Fail> {
+    cells_end::<Pair<Tally, Pair<Queue, Board>>>(&rt, 63)
 }
 
 #[test]
-fn the_cells_of_an_inset_end_at_127_and_its_amounts_at_a_million() -> Result<(), Fail> {
-    cells_end::<Inset<Tally, 64>>(127)
+fn the_cells_of_an_inset_end_at_127_and_its_amounts_at_a_million(
+    rt: HostRuntime,
+) -> Result<(), Fail> {
+    cells_end::<Inset<Tally, 64>>(&rt, 127)
 }
 
 #[test]
 fn the_counts_of_a_tally_end_at_two_billion_either_way(rt: HostRuntime) -> Result<(), Fail> {
-    counts_end::<Tally>(rt.alloc(), 63)
+    counts_end::<Tally>(&rt, rt.alloc(), 63)
 }
 
 #[test]
 fn the_counts_of_a_pair_end_at_two_billion_either_way(rt: HostRuntime) -> Result<(), Fail> {
-    counts_end::<Pair<Tally, Pair<Queue, Board>>>(rt.alloc(), 63)
+    counts_end::<Pair<Tally, Pair<Queue, Board>>>(&rt, rt.alloc(), 63)
 }
 
 #[test]
 fn the_counts_of_an_inset_end_at_two_billion_either_way(rt: HostRuntime) -> Result<(), Fail> {
-    counts_end::<Inset<Tally, 64>>(rt.alloc(), 127)
+    counts_end::<Inset<Tally, 64>>(&rt, rt.alloc(), 127)
 }
 
 #[test]
 fn a_change_leaves_the_cells_beside_it(rt: HostRuntime) -> Result<(), Fail> {
     run::<Tally>(
+        &rt,
         rt.alloc(),
         &[
             Act::Steps(CHANGE, 1, 5, Some(0)),
@@ -94,6 +104,7 @@ fn a_change_leaves_the_cells_beside_it(rt: HostRuntime) -> Result<(), Fail> {
 #[test]
 fn a_change_past_the_last_cell_is_idle(rt: HostRuntime) -> Result<(), Fail> {
     run::<Tally>(
+        &rt,
         rt.alloc(),
         &[
             Act::Steps(CHANGE, 64, 5, None),
