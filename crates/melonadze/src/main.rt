@@ -3,6 +3,7 @@
 
 use anyhow::anyhow;
 use house::print_house_script;
+use std::process::ExitCode;
 use std::{env, fs, io};
 
 // The script: the file that the one argument names, or standard input where there is none.
@@ -29,10 +30,12 @@ fn work_off(rt: &HostRuntime) -> anyhow::Result<()> {
     }
 }
 
-fn main(rt: HostRuntime) -> anyhow::Result<()> {
-    let done = work_off(&rt);
-    if let Err(error) = &done {
-        eprintln!(rt; "melonadze: {error}")?;
+fn main(rt: HostRuntime) -> anyhow::Result<ExitCode> {
+    match work_off(&rt) {
+        Ok(()) => Ok(ExitCode::SUCCESS),
+        Err(error) => {
+            eprintln!(rt; "melonadze: {error}")?;
+            Ok(ExitCode::FAILURE)
+        }
     }
-    done
 }

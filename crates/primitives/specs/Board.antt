@@ -1,5 +1,5 @@
 -- 64 statuses, one for each path, all 0 at first: a set writes one of them and notes the old one.
-use Rattle.std.specs.Prelude.{◌≡◌, Bool, cond, ◌&&◌, List, length, set, replicate, ℤ, pos, Some, None, ◌==◌, nat_lt, slice_index_or, slice_set, refl}
+use Rattle.std.specs.Prelude.{◌≡◌, Bool, cond, ◌&&◌, List, length, replicate, ℤ, pos, Some, None, ◌==◌, nat_lt, slice_index_or, slice_set, refl}
 use Rattle.std.proofs.Common.{◌∙◌, length-set}
 use Rattle.std.proofs.Math.Nat.{ℕ_set}
 use Rattle.std.proofs.lemmas.Bool.{cond_both}

@@ -1,5 +1,5 @@
 -- What is read off a sound shelf.
-use Rattle.std.proofs.Common.{◌≡◌, ℕ, ◌-◌, ◌<◌, ◌≤◌, Bool, true, not, ◌⊎◌, List, [], ◌∷◌, length, Ok, filter, Option, sym, refl, ap, ◌∙◌, arith}
+use Rattle.std.proofs.Common.{◌≡◌, ℕ, ◌<◌, ◌≤◌, Bool, true, not, ◌⊎◌, List, [], ◌∷◌, length, Ok, filter, Option, sym, refl, ap, ◌∙◌, arith}
 use mathlib.Core.Bool.{not-not}
 use Rattle.std.specs.List.{slice_get, AllByRecursion as All}
 use Rattle.std.proofs.ByRecursion.{All-weaker}
@@ -8,7 +8,7 @@ use Rattle.std.proofs.lemmas.Bool.Decides.{nat_tests}
 use Rattle.avl.specs.Book.{Sorted, Before, comes_before}
 use Rattle.avl.specs.Placing.{Onward, front}
 use Rattle.avl.specs.Summary.{SummaryModel, Lawful as Light, total_weight, list_join}
-use Rattle.avl.specs.Tree.{inorder, size}
+use Rattle.avl.specs.Tree.{inorder}
 use Rattle.avl.proofs.BookTrees.{length_order}
 use Rattle.avl.proofs.Depths.{size_is_length}
 use Rattle.avl.proofs.Joins.{front_joins_as_list}
@@ -22,7 +22,7 @@ use Rattle.slots.specs.Chain.{standing, own}
 use Rattle.shelf.specs.Sound.{Sound}
 use Rattle.shelf.specs.Ways.{Read, Counts, Selects, Joins, behind}
 use Rattle.shelf.specs.Reading.{standing_entries, standing_up_to, standing_before, joined_summaries}
-use Rattle.shelf.proofs.Datings.{by_dating, one_way, equal, transitive}
+use Rattle.shelf.proofs.Datings.{by_dating}
 use Rattle.slots.proofs.Measures.{own_light}
 use Rattle.shelf.proofs.Joining.{standing_joined}
 use Rattle.shelf.proofs.Readings.{kept_small}

@@ -1,5 +1,5 @@
 -- A turn in slots is a turn of trees.
-use Rattle.std.proofs.Common.{◌≡◌, ℕ, ◌+◌, ◌<◌, ◌≤◌, List, ◌∷◌, ◌++◌, length, inr, append_assoc, arith}
+use Rattle.std.proofs.Common.{◌≡◌, ℕ, ◌<◌, ◌≤◌, List, ◌∷◌, ◌++◌, length, inr, append_assoc, arith}
 use Rattle.avl.specs.Tree.{leaf, node, inorder, turn_left, turn_right}
 use Rattle.avl.specs.Summary.{SummaryModel}
 use Rattle.machines.specs.declared.operation.Operation.{Operation}

@@ -1,7 +1,7 @@
-use Rattle.std.proofs.Common.{◌≡◌, ◌+◌, [], ◌++◌, get_or, take, string_bytes, codes, sym, ap, ◌∙◌, ap₂}
+use Rattle.std.proofs.Common.{◌≡◌, [], ◌++◌, get_or, take, string_bytes, codes, sym, ap, ◌∙◌, ap₂}
 use Rattle.std.proofs.lemmas.List.{flat_map_more, take_all, take_more}
 use Rattle.std.specs.List.{flat_map}
-use Rattle.replies.specs.Replies.{reply_text, totals, totals_text}
+use Rattle.replies.specs.Replies.{reply_text, totals_text}
 use Rattle.replies.specs.declared.reply.Reply.{Reply}
 use Rattle.replies.proofs.transcript.print_replies.Goals as goal
 
