@@ -1,16 +1,16 @@
 -- Where a test holds onward, what it does not hold of is the front.
 use Rattle.std.proofs.Common.{◌≡◌, ℕ, Bool, true, false, List, [], ◌∷◌, ◌++◌, filter, refl, append-nil, arith}
-use Rattle.std.specs.List.{AllByRecursion as All}
+use Rattle.std.specs.List.{AllByRecursion}
 use Rattle.std.proofs.lemmas.List.Elements.{filter-append}
 use Rattle.avl.specs.Placing.{placed, Onward, front}
 use Rattle.avl.proofs.Placings.{onward_right, quiet_before}
 
 module _ (before : ℕ → Bool) where
-  none_in_front : (xs : List ℕ) → All (λ i. before i ≡ true) xs → front before xs ≡ []
+  none_in_front : (xs : List ℕ) → AllByRecursion (λ i. before i ≡ true) xs → front before xs ≡ []
   none_in_front [] h = refl
   none_in_front (x ∷ xs) h = rw (h.0, none_in_front xs h.1)
 
-  all_in_front : (xs : List ℕ) → All (λ i. before i ≡ false) xs → front before xs ≡ xs
+  all_in_front : (xs : List ℕ) → AllByRecursion (λ i. before i ≡ false) xs → front before xs ≡ xs
   all_in_front [] h = refl
   all_in_front (x ∷ xs) h = rw (h.0, all_in_front xs h.1)
 

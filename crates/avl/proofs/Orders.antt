@@ -1,6 +1,6 @@
 -- Book order: it stands, there is no other, where the next entry goes, and what is dated no later stands in front.
 use Rattle.std.proofs.Common.{◌≡◌, ℕ, zero, suc, ◌<◌, Bool, true, false, ◌⊎◌, ◌↔◌, List, [], ◌∷◌, sym, refl, inl, inr, ⊎_elim, arith}
-use Rattle.std.specs.List.{AllByRecursion as All}
+use Rattle.std.specs.List.{AllByRecursion}
 use Rattle.std.proofs.ByRecursion.{All-weaker}
 use Rattle.std.proofs.lemmas.Bool.{cond_both}
 use Rattle.avl.specs.Claims.{OrderStands, OrderIsOne, OrderGrows, FrontIsPrefix}
@@ -10,7 +10,7 @@ use Rattle.avl.proofs.Fronts.{front_is_prefix, placed_behind}
 
 -- What is placed in a list is the list and the new slot.
 module _ (before : ℕ → Bool) (n : ℕ) where
-  all_placed : (P : ℕ → Type 0) (xs : List ℕ) → P n → All P xs → All P (placed before n xs)
+  all_placed : (P : ℕ → Type 0) (xs : List ℕ) → P n → AllByRecursion P xs → AllByRecursion P (placed before n xs)
   all_placed P [] p h = (p, tt)
   all_placed P (x ∷ xs) p h = let rest = all_placed P xs p h.1 in grind arith
 
@@ -22,14 +22,14 @@ module _ (before : ℕ → Bool) (n : ℕ) where
   placed_in i [] h = h
   placed_in i (x ∷ xs) h = let rest = placed_in i xs in grind arith
 
-pub in_all : (R : ℕ → ℕ → Type 0) (x i : ℕ) (xs : List ℕ) → All (R x) xs → In i xs → R x i
+pub in_all : (R : ℕ → ℕ → Type 0) (x i : ℕ) (xs : List ℕ) → AllByRecursion (R x) xs → In i xs → R x i
 in_all R x i [] h within = absurd within
 in_all R x i (y ∷ ys) h within = let rest = in_all R x i ys h.1 in grind arith
 
 -- Two lists that are sorted alike and hold the same numbers are one.
 module _ (R : ℕ → ℕ → Type 0) (never : (i : ℕ) → R i i → ⊥) (chain : (i j k : ℕ) → R i j → R j k → R i k) where
   -- what is in the one rest is in the other, since it is not the first
-  rest_in : (x i : ℕ) (xs ys : List ℕ) → All (R x) xs → (In i xs → In i (x ∷ ys)) → In i xs → In i ys
+  rest_in : (x i : ℕ) (xs ys : List ℕ) → AllByRecursion (R x) xs → (In i xs → In i (x ∷ ys)) → In i xs → In i ys
   rest_in x i xs ys h to within =
       ⊎_elim (λ e. absurd (never x (rw e at (in_all R x i xs h within)))) (λ k. k) (to within)
 
@@ -73,14 +73,14 @@ module _ {D : Type 0} (o : Order D) (date : ℕ → D) where
   stands_behind : (i n : ℕ) → i < n → o.earlier (date n) (date i) ≡ false → Before o.earlier date i n
   stands_behind i n lt later = grind (arith, o.equal)
 
-  placed_sorted : (n : ℕ) (xs : List ℕ) → All (λ i. i < n) xs → Sorted (Before o.earlier date) xs → Sorted (Before o.earlier date) (placed (dated_after o.earlier date (date n)) n xs)
+  placed_sorted : (n : ℕ) (xs : List ℕ) → AllByRecursion (λ i. i < n) xs → Sorted (Before o.earlier date) xs → Sorted (Before o.earlier date) (placed (dated_after o.earlier date (date n)) n xs)
   placed_sorted n [] below h = (tt, tt)
   placed_sorted n (x ∷ xs) below h =
       cond_both (o.earlier (date n) (date x)) _ _ (Sorted (Before o.earlier date))
       (λ e. ((inl e, All-weaker (λ i. dated_after o.earlier date (date n) i ≡ true) (Before o.earlier date n) (λ i. inl) xs ((sorted_onward (date n) (x ∷ xs) h).0 e)), h))
       (λ e. (all_placed (dated_after o.earlier date (date n)) n (Before o.earlier date x) xs (stands_behind x n below.0 e) h.0, placed_sorted n xs below.1 h.1))
 
-  pub all_below : (n : ℕ) → All (λ i. i < n) (book_order o.earlier date n)
+  pub all_below : (n : ℕ) → AllByRecursion (λ i. i < n) (book_order o.earlier date n)
   all_below zero = tt
   all_below (suc n) =
       all_placed (dated_after o.earlier date (date n)) n (λ i. i < suc n) (book_order o.earlier date n) (omega arith)
@@ -117,7 +117,7 @@ pub order_front : {D : Type 0} (o : Order D) → FrontIsPrefix o.earlier
 order_front o date day n = front_is_prefix (dated_after o.earlier date day) (book_order o.earlier date n) (order_onward o date day n)
 
 -- What is placed, and so book order, goes only by the tests of the slots in the list.
-placed_same : (p q : ℕ → Bool) (n : ℕ) (xs : List ℕ) → All (λ i. p i ≡ q i) xs → placed p n xs ≡ placed q n xs
+placed_same : (p q : ℕ → Bool) (n : ℕ) (xs : List ℕ) → AllByRecursion (λ i. p i ≡ q i) xs → placed p n xs ≡ placed q n xs
 placed_same p q n [] h = refl
 placed_same p q n (x ∷ xs) h = rw (h.0, placed_same p q n xs h.1)
 

@@ -1,6 +1,6 @@
 -- An insertion puts the new slot where `placed` does.
 use Rattle.std.proofs.Common.{◌≡◌, ℕ, Bool, true, false, List, [], ◌∷◌, ◌++◌, refl, arith}
-use Rattle.std.specs.List.{AllByRecursion as All}
+use Rattle.std.specs.List.{AllByRecursion}
 use Rattle.avl.specs.Claims.{InsertPlaces}
 use Rattle.avl.specs.Placing.{placed, Onward}
 use Rattle.avl.specs.Tree.{leaf, node, inorder, insert_by}
@@ -8,11 +8,11 @@ use Rattle.avl.proofs.Rotations.{balance_keeps}
 
 -- what holds of each of two lists joined
 module _ {X : Type 0} (P : X → Type 0) where
-  pub all_left : (xs ys : List X) → All P (xs ++ ys) → All P xs
+  pub all_left : (xs ys : List X) → AllByRecursion P (xs ++ ys) → AllByRecursion P xs
   all_left [] ys h = tt
   all_left (x ∷ xs) ys h = (h.0, all_left xs ys h.1)
 
-  pub all_right : (xs ys : List X) → All P (xs ++ ys) → All P ys
+  pub all_right : (xs ys : List X) → AllByRecursion P (xs ++ ys) → AllByRecursion P ys
   all_right [] ys h = h
   all_right (x ∷ xs) ys h = all_right xs ys h.1
 
@@ -26,7 +26,7 @@ module _ (before : ℕ → Bool) where
   onward_right (x ∷ xs) ys h = onward_right xs ys h.1
 
   -- the test fails at a slot, so it fails at every earlier one
-  pub quiet_before : (xs : List ℕ) (i : ℕ) (ys : List ℕ) → Onward before (xs ++ i ∷ ys) → before i ≡ false → All (λ j. before j ≡ false) xs
+  pub quiet_before : (xs : List ℕ) (i : ℕ) (ys : List ℕ) → Onward before (xs ++ i ∷ ys) → before i ≡ false → AllByRecursion (λ j. before j ≡ false) xs
   quiet_before [] i ys h e = tt
   quiet_before (x ∷ xs) i ys h e =
       let later : before x ≡ true → before i ≡ true = λ t. (all_right (λ j. before j ≡ true) xs (i ∷ ys) (h.0 t)).0 in
@@ -37,7 +37,7 @@ module _ (before : ℕ → Bool) where
     placed_left [] i ys e = grind arith
     placed_left (x ∷ xs) i ys e = let rest = placed_left xs i ys e in grind arith
 
-    placed_right : (xs ys : List ℕ) → All (λ j. before j ≡ false) xs → placed before n (xs ++ ys) ≡ xs ++ placed before n ys
+    placed_right : (xs ys : List ℕ) → AllByRecursion (λ j. before j ≡ false) xs → placed before n (xs ++ ys) ≡ xs ++ placed before n ys
     placed_right [] ys h = refl
     placed_right (x ∷ xs) ys h = let rest = placed_right xs ys h.1 in grind arith
 

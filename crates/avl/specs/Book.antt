@@ -1,6 +1,6 @@
 -- Book order: slots by date, and those of one date by number.
 use Rattle.std.specs.Prelude.{◌≡◌, ℕ, zero, suc, ◌<◌, Bool, true, false, not, ◌&&◌, ◌||◌, ◌⊎◌, ◌↔◌, List, [], ◌∷◌, nat_lt}
-use Rattle.std.specs.List.{AllByRecursion as All}
+use Rattle.std.specs.List.{AllByRecursion}
 use Rattle.avl.specs.Placing.{placed}
 
 -- Two dates are equal or exactly one is earlier, and earlier is transitive. Nothing more is asked of dates.
@@ -13,7 +13,7 @@ pub record Order (D : Type 0) : Type 0 where
 -- each number stands in R to all after it
 abbrev pub Sorted : (ℕ → ℕ → Type 0) → List ℕ → Type 0
 Sorted R [] = Unit {0}
-Sorted R (x ∷ xs) = All (R x) xs × Sorted R xs
+Sorted R (x ∷ xs) = AllByRecursion (R x) xs × Sorted R xs
 
 -- i is one of the numbers
 abbrev pub In : ℕ → List ℕ → Type 0

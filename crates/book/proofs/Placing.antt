@@ -1,7 +1,7 @@
 -- The place of a new entry is found from the end, and keeps book order.
 use Rattle.std.proofs.Common.{◌≡◌, ℕ, suc, ◌+◌, ◌-◌, ◌<◌, ◌≤◌, Bool, true, false, List, [], ◌∷◌, ◌++◌, reverse, length, get_or, take, drop, sym, refl, ap, ◌∙◌, subst, inl, inr, arith}
 use mathlib.Core.List.{reverse-cons}
-use Rattle.std.specs.List.{prefix_len, suffix_len, insert, AllByRecursion as All}
+use Rattle.std.specs.List.{prefix_len, suffix_len, insert, AllByRecursion}
 use Rattle.std.proofs.lemmas.List.Edits.{length-insert}
 use Rattle.std.proofs.ByRecursion.{All-append, All-drop, All-push, All-take, All-weaker}
 use Rattle.std.proofs.lemmas.List.{length-reverse, take_all}
@@ -31,7 +31,7 @@ module _ {X : Type 0} (p : X → Bool) where
   pub passed_all : (xs : List X) (n : ℕ) (x : X) → 0 < n → x ≡ get_or xs (n - 1) x → false ≡ p x → Passed xs n → n ≡ length xs - suffix_len p xs
   passed_all xs n x some is fails (within, sums) = omega (arith, suffix_len-take_no p xs n x some within (sym (fails ∙ ap p is)))
 
-  leading_all : (xs : List X) → All (λ x. p x ≡ true) xs → prefix_len p xs ≡ length xs
+  leading_all : (xs : List X) → AllByRecursion (λ x. p x ≡ true) xs → prefix_len p xs ≡ length xs
   leading_all [] all = refl
   leading_all (x ∷ xs) (passes, all) = let more = leading_all xs all in grind arith
 
@@ -39,18 +39,18 @@ module _ {X : Type 0} (p : X → Bool) where
   leading_stop [] x fails = grind arith
   leading_stop (y ∷ ys) x fails = let more = leading_stop ys x fails in grind arith
 
-  all_reverse : (P : X → Type 0) (xs : List X) → All P xs → All P (reverse xs)
+  all_reverse : (P : X → Type 0) (xs : List X) → AllByRecursion P xs → AllByRecursion P (reverse xs)
   all_reverse P [] all = tt
   all_reverse P (x ∷ xs) (here, all) =
-      subst (All P) (sym (reverse-cons x xs)) (All-push P (reverse xs) x (all_reverse P xs all) here)
+      subst (AllByRecursion P) (sym (reverse-cons x xs)) (All-push P (reverse xs) x (all_reverse P xs all) here)
 
-  ending_all : (xs : List X) → All (λ x. p x ≡ true) xs → suffix_len p xs ≡ length xs
+  ending_all : (xs : List X) → AllByRecursion (λ x. p x ≡ true) xs → suffix_len p xs ≡ length xs
   ending_all xs all = leading_all (reverse xs) (all_reverse (λ x. p x ≡ true) xs all) ∙ length-reverse xs
 
   ending_behind : (x : X) (xs : List X) → p x ≡ false → suffix_len p (x ∷ xs) ≡ suffix_len p xs
   ending_behind x xs fails = ap (prefix_len p) (reverse-cons x xs) ∙ leading_stop (reverse xs) x fails
 
-all_inserted : {X : Type 0} (P : X → Type 0) (xs : List X) (n : ℕ) (x : X) → All P xs → P x → All P (insert xs n x)
+all_inserted : {X : Type 0} (P : X → Type 0) (xs : List X) (n : ℕ) (x : X) → AllByRecursion P xs → P x → AllByRecursion P (insert xs n x)
 all_inserted P xs n x all here = All-append P (take n xs) (x ∷ drop n xs) (All-take P n xs all) (here, All-drop P n xs all)
 
 module _ {D : Type 0} (dates : DateModel D) (lawful : Lawful dates) where
@@ -65,13 +65,13 @@ module _ {D : Type 0} (dates : DateModel D) (lawful : Lawful dates) where
       go true e = inl e
       go false e = inr (lawful.equal x.date new.date e fails, less)
 
-  sorted_placed : (new : Entry D) (xs : List (Entry D)) → All (λ x. x.number < new.number) xs → Sorted dates xs → Sorted dates (placed dates new xs)
+  sorted_placed : (new : Entry D) (xs : List (Entry D)) → AllByRecursion (λ x. x.number < new.number) xs → Sorted dates xs → Sorted dates (placed dates new xs)
   sorted_placed new [] less sorted = (tt, tt)
   sorted_placed new (x ∷ xs) (less, lesser) (first, rest) = go (sorted_placed new xs lesser rest) (later dates new.date x) refl
     where
       go : Sorted dates (placed dates new xs) → (b : Bool) → later dates new.date x ≡ b → Sorted dates (placed dates new (x ∷ xs))
       go more true passes =
-          let all : All (λ y. later dates new.date y ≡ true) (x ∷ xs) = (passes, All-weaker (Before dates x) _ (λ y. later_behind new.date x y passes) xs first) in
+          let all : AllByRecursion (λ y. later dates new.date y ≡ true) (x ∷ xs) = (passes, All-weaker (Before dates x) _ (λ y. later_behind new.date x y passes) xs first) in
           let at : place dates new.date (x ∷ xs) ≡ 0 = omega (arith, ending_all (later dates new.date) (x ∷ xs) all) in
           subst (λ n. Sorted dates (insert (x ∷ xs) n new)) (sym at) (All-weaker _ (Before dates new) (λ y h. inl h) (x ∷ xs) all, (first, rest))
       go more false fails =

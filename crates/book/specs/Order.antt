@@ -1,6 +1,6 @@
 -- Book order, and where a new entry is placed.
 use Rattle.std.specs.Prelude.{◌≡◌, ℕ, ◌-◌, ◌<◌, ◌≤◌, Bool, true, not, ◌⊎◌, List, [], ◌∷◌, length, vec_items, filter}
-use Rattle.std.specs.List.{suffix_len, insert, AllByRecursion as All}
+use Rattle.std.specs.List.{suffix_len, insert, AllByRecursion}
 use Rattle.dates.specs.Model.{DateModel}
 use Rattle.book.specs.declared.entries.Entries.{Entries}
 use Rattle.book.specs.declared.entries.Entry.{Entry}
@@ -32,11 +32,11 @@ module _ {D : Type 0} (dates : DateModel D) where
   -- each entry is before all that stand behind it
   abbrev pub Sorted : List (Entry D) → Type 0
   Sorted [] = Unit {0}
-  Sorted (entry ∷ entries) = All (Before entry) entries × Sorted entries
+  Sorted (entry ∷ entries) = AllByRecursion (Before entry) entries × Sorted entries
 
   pub record InBookOrder (entries : List (Entry D)) : Type 0 where
     pub sorted : Sorted entries
-    pub numbered : All (λ entry. (1 ≤ entry.number) × (entry.number ≤ length entries)) entries
+    pub numbered : AllByRecursion (λ entry. (1 ≤ entry.number) × (entry.number ≤ length entries)) entries
 
   abbrev pub KeepsOrder : List (Entry D) → List (Entry D) → Type 0
   KeepsOrder old new = InBookOrder old → InBookOrder new

@@ -1,7 +1,7 @@
 -- What a kind of date is, and the laws of every kind.
 use Rattle.std.specs.Prelude.{◌≡◌, ℕ, ◌^◌, ◌<◌, Bool, true, false, List, length, Ok, Result}
 use Rattle.std.specs.declared.cmp.Ordering.{Ordering}
-use Rattle.std.specs.List.{AllByRecursion as All}
+use Rattle.std.specs.List.{AllByRecursion}
 use Rattle.dates.specs.Order.{ranked}
 use Rattle.dates.specs.declared.fault.NoSuchDate.{NoSuchDate}
 
@@ -13,7 +13,7 @@ pub record DateModel (D : Type 0) : Type 0 where
   pub given : List ℕ → Result D NoSuchDate
 
 abbrev pub IsFourBytes : List ℕ → Type 0
-IsFourBytes bs = (length bs ≡ 4) × All (λ b. b < 256) bs
+IsFourBytes bs = (length bs ≡ 4) × AllByRecursion (λ b. b < 256) bs
 
 pub record Lawful {D : Type 0} (m : DateModel D) : Type 0 where
   -- the number of the kind fits two bytes

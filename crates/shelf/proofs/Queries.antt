@@ -1,7 +1,7 @@
 -- What is read off a sound shelf.
 use Rattle.std.proofs.Common.{◌≡◌, ℕ, ◌<◌, ◌≤◌, Bool, true, not, ◌⊎◌, List, [], ◌∷◌, length, Ok, filter, Option, sym, refl, ap, ◌∙◌, arith}
 use mathlib.Core.Bool.{not-not}
-use Rattle.std.specs.List.{slice_get, AllByRecursion as All}
+use Rattle.std.specs.List.{slice_get, AllByRecursion}
 use Rattle.std.proofs.ByRecursion.{All-weaker}
 use Rattle.std.proofs.lemmas.List.Sums.{sum_by-cons}
 use Rattle.std.proofs.lemmas.Bool.Decides.{nat_tests}
@@ -29,7 +29,7 @@ use Rattle.shelf.proofs.Readings.{kept_small}
 use Rattle.shelf.proofs.Sounds.{in_order, sized, shallow}
 
 -- two tests that agree on a list keep the same of it
-kept_same : (p q : ℕ → Bool) (xs : List ℕ) → All (λ i. p i ≡ q i) xs → filter p xs ≡ filter q xs
+kept_same : (p q : ℕ → Bool) (xs : List ℕ) → AllByRecursion (λ i. p i ≡ q i) xs → filter p xs ≡ filter q xs
 kept_same p q [] h = refl
 kept_same p q (x ∷ xs) h = rw (h.0, kept_same p q xs h.1)
 

@@ -3,7 +3,7 @@ use Rattle.std.proofs.Common.{◌≡◌, ℕ, suc, ◌+◌, ◌<◌, false, eqb,
 use Rattle.std.proofs.ByRecursion.{all_from_every}
 use Rattle.std.proofs.lemmas.Bool.Decides.{nat_tests}
 use Rattle.std.specs.Str.Iter.{LacksByte}
-use Rattle.std.specs.List.{join_with_byte, AllByRecursion as All}
+use Rattle.std.specs.List.{join_with_byte, AllByRecursion}
 use Rattle.words.specs.Text.{lines, lines_from, spelled}
 
 -- bytes that are no line feed go on with the line
@@ -14,7 +14,7 @@ line_on line (b ∷ bs) rest lacks =
     let more = line_on (line ++ (b ∷ [])) bs rest (λ k h. lacks (suc k) (suc-le-suc h)) in
     rw other (more ∙ ap (λ l. lines_from l rest) (append_assoc line (b ∷ []) bs))
 
-lines_of_pieces : (pieces : List (Bor (List ℕ))) → 0 < length pieces → All (λ piece. LacksByte 10 piece.now) pieces → spelled pieces ≡ lines (join_with_byte 10 (spelled pieces))
+lines_of_pieces : (pieces : List (Bor (List ℕ))) → 0 < length pieces → AllByRecursion (λ piece. LacksByte 10 piece.now) pieces → spelled pieces ≡ lines (join_with_byte 10 (spelled pieces))
 lines_of_pieces [] some lacks = absurd (omega arith)
 lines_of_pieces (l ∷ []) some lacks = sym (ap (lines_from []) (sym (append-nil l.now)) ∙ line_on [] l.now [] lacks.0)
 lines_of_pieces (l ∷ m ∷ ls) some lacks =
