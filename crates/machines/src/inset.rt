@@ -7,8 +7,8 @@ use crate::{Machine, Note, Operation, Question};
 use std::alloc::{AllocError, Global};
 use std::marker::PhantomData;
 
-// The number at which the places of an inset begin, fixed in a type. It is a type, and no const parameter of the machine,
-// since the law of a machine is proved only for a block with no const parameter.
+// The number at which the places of an inset begin, fixed in a type. It is a type, and no const parameter of the machine:
+// the toolchain that this was written for proved the law of a machine only for a block with no const parameter.
 pub trait Base: Sized {
     ghost base: { ℕ };
 

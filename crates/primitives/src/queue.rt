@@ -82,7 +82,7 @@ impl Queue {
         Note::Moved(0)
     }
 
-    // `remove(0)` says, as `pop_front` does not, that the capacity stays.
+    // `remove(0)` says that the capacity stays.
     fn draw(&mut self) -> Note
         ensures jobs { self.new.jobs.items ≡ drop 1 self.old.jobs.items }
         ensures noted { result ≡ draw_note self.old.jobs.items }
@@ -93,7 +93,7 @@ impl Queue {
         }
     }
 
-    // Takes the last job off again. `truncate` says, as `pop_back` does not, that the capacity stays.
+    // Takes the last job off again. `truncate` says that the capacity stays.
     fn take_back_order(&mut self)
         ensures { self.new.jobs.items ≡ take (length self.old.jobs.items - 1) self.old.jobs.items }
     {

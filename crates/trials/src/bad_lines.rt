@@ -28,8 +28,8 @@ fn is_bad(
     reason: &str,
 ) -> Result<(), Fail> {
     match parse(heap, text) {
-        Ok(_) => Err(Fail::new("the script is read")),
-        Err(ScriptFault::NoMemory) => Err(Fail::new("no memory")),
+        Ok(_) => Err(Fail::new(format_args!("{text}: the script is read"))),
+        Err(ScriptFault::NoMemory) => Err(Fail::new(format_args!("{text}: no memory"))),
         Err(ScriptFault::BadLine(number, found)) => {
             assert_eq!(rt; number, line, "{text}");
             assert_eq!(rt; found.to_string(heap)?.as_str(), reason, "{text}");

@@ -59,10 +59,10 @@ fn number_of(note: Note) -> Option<i32> {
 }
 
 impl<M: Machine> Trial<M> {
-    fn step(&mut self, operation: Operation) -> Result<Option<i32>, Fail> {
+    fn step(&mut self, i: usize, operation: Operation) -> Result<Option<i32>, Fail> {
         let note = self.counter.step(&operation);
         if self.steps.push((operation, note)).is_err() {
-            return Err(Fail::new("no memory"));
+            return Err(Fail::new(format_args!("act {i}: no memory")));
         }
         Ok(number_of(note))
     }
@@ -75,15 +75,15 @@ impl<M: Machine> Trial<M> {
         times: usize,
     ) -> Result<(), Fail> {
         for _ in 0..times {
-            let number = self.step(operation)?;
+            let number = self.step(i, operation)?;
             assert!(rt; number.is_some(), "act {i}");
         }
         Ok(())
     }
 
-    fn take_back(&mut self) -> Result<(), Fail> {
+    fn take_back(&mut self, i: usize) -> Result<(), Fail> {
         let Some((operation, note)) = self.steps.pop() else {
-            return Err(Fail::new("no step stands"));
+            return Err(Fail::new(format_args!("act {i}: no step stands")));
         };
         self.counter.take_back(&operation, note);
         Ok(())
@@ -93,14 +93,14 @@ impl<M: Machine> Trial<M> {
     fn act(&mut self, rt: &impl Abort, i: usize, act: Act) -> Result<(), Fail> {
         match act {
             Act::Steps(code, place, amount, number) => {
-                let noted = self.step(operation(code, place, amount))?;
+                let noted = self.step(i, operation(code, place, amount))?;
                 assert_eq!(rt; noted, number, "act {i}");
                 Ok(())
             }
             Act::Repeats(code, place, amount, times) => {
                 self.repeat(rt, i, operation(code, place, amount), times)
             }
-            Act::TakesBack => self.take_back(),
+            Act::TakesBack => self.take_back(i),
             Act::Reads(code, place, index, number) => {
                 let read = self.counter.read(&question(code, place, index));
                 assert_eq!(rt; read, number, "act {i}");
