@@ -23,7 +23,7 @@ pub enum Order {
 }
 
 impl Order {
-    pub fn name(self) -> &'static str {
+    pub(crate) fn name(self) -> &'static str {
         match self {
             Order::Rising => "rising",
             Order::Falling => "falling",
@@ -43,7 +43,7 @@ pub struct Days {
 }
 
 impl Days {
-    pub fn new(order: Order) -> Days {
+    pub(crate) fn new(order: Order) -> Days {
         Days {
             order,
             given: 0,
@@ -51,7 +51,7 @@ impl Days {
         }
     }
 
-    pub fn next(&mut self) -> DayNumber {
+    pub(crate) fn next(&mut self) -> DayNumber {
         let i = self.given as i32;
         self.given = self.given.saturating_add(1);
         self.number = (self.number % MODULUS * MULTIPLIER + INCREMENT) % MODULUS;
