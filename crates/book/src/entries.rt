@@ -11,7 +11,6 @@ use crate::{Accepted, Call, Fault, Refusal};
 use dates::Date;
 use machines::{Machine, Operation, Question, check_operation, check_question};
 use std::alloc::{AllocError, Global};
-use std::cmp::Ordering;
 
 // An entry has the number under which it arrived, counted from 1, its date, and what is done to the machine.
 #[derive(Clone, Copy)]
@@ -31,10 +30,7 @@ impl<D: Date> Entry<D> {
     fn is_later_than(&self, date: &D) -> bool
         ensures { result ≡ later D.model date.now self.now }
     {
-        match date.compare(&self.date) {
-            Ordering::Less => true,
-            _ => false,
-        }
+        date.cmp(&self.date).is_lt()
     }
 }
 

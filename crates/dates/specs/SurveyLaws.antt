@@ -2,12 +2,13 @@
 use Rattle.std.specs.Prelude.{◌≡◌, ℕ, ◌+◌, ◌-◌, ◌*◌, ◌/◌, ◌%◌, ◌<◌, ◌≤◌, Bool, true, false, [], ◌∷◌, Ok, slice_index, refl}
 use Rattle.std.proofs.Common.{sym, ap, ◌∙◌, arith, rules}
 use Rattle.std.proofs.Math.Bool.{Bool-set}
+use Rattle.std.specs.Ordering.{nat_cmp, ordering_then}
 use mathlib.Core.HLevel.{is_prop→PathP}
 use Rattle.std.proofs.ByRecursion.{All-get_or}
 use Rattle.std.proofs.lemmas.Bool.{false≢true}
 use Rattle.std.proofs.lemmas.Bool.Decides.{nat_tests}
 use Rattle.dates.specs.Calendar.{exists, leap, month_lengths}
-use Rattle.dates.specs.Model.{Lawful}
+use Rattle.dates.specs.Model.{Lawful, compared}
 use Rattle.dates.specs.Survey.{date_if, dated, places, survey_dates}
 use Rattle.dates.specs.declared.survey.SurveyDate.{SurveyDate}
 use Rattle.dates.specs.FourBytes.{by_four}
@@ -55,6 +56,10 @@ bounds d =
     let short = short_months (leap d.year) (d.month - 1) in
     let real = d.real in
     (grind (arith, nat_tests), grind (arith, nat_tests), grind (arith, nat_tests))
+
+-- the answer of comparing by the year, then the month, then the day
+pub survey_ordered : (a b : SurveyDate) → ordering_then (nat_cmp a.year b.year) (ordering_then (nat_cmp a.month b.month) (nat_cmp a.day b.day)) ≡ compared survey_dates a b
+survey_ordered a b = grind (arith, nat_tests)
 
 pub survey_lawful : Lawful survey_dates
 survey_lawful = record {

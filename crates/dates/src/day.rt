@@ -4,7 +4,7 @@ ghost use Rattle.std.specs.Int.Signed.{mag};
 
 pub mod kind;
 
-#[derive(Clone, Copy)]
+#[derive(Clone, Copy, PartialEq, Eq, PartialOrd, Ord)]
 pub struct DayNumber {
     number: i32,
     // The number is one that an i32 holds: `mag` is n both of n and of -(n + 1).

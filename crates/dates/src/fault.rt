@@ -5,7 +5,7 @@ ghost use Rattle.dates.specs.Refusals.{no_such_date};
 use std::fmt;
 
 // There is no such date of this kind.
-#[derive(Clone, Copy)]
+#[derive(Clone, Copy, PartialEq, Eq)]
 pub struct NoSuchDate;
 
 impl NoSuchDate {

@@ -5,7 +5,8 @@ ghost use Rattle.dates.specs.Calendar.{exists};
 mod calendar;
 pub mod kind;
 
-#[derive(Clone, Copy)]
+// The order goes by the fields from first to last: the year, then the month, then the day, as numbers.
+#[derive(Clone, Copy, PartialEq, Eq, PartialOrd, Ord)]
 pub struct SurveyDate {
     year: u16,
     month: u8,

@@ -11,7 +11,7 @@ pub(crate) fn is_sooner<D: Date>(date: &D, bytes: [u8; 4]) -> bool
     ensures { result ≡ sooner D.Date.model (Ok date.now) (D.Date.model.given bytes) }
 {
     match D::from_bytes(bytes) {
-        Ok(other) => date.compare(&other).is_lt(),
+        Ok(other) => date.cmp(&other).is_lt(),
         Err(_) => false,
     }
 }
@@ -21,7 +21,7 @@ pub(crate) fn is_ahead<D: Date>(bytes: [u8; 4], i: u16, date: &D, number: u32) -
     ensures { result ≡ ahead D.Date.model (D.Date.model.given bytes) i (Ok date.now) number }
 {
     match D::from_bytes(bytes) {
-        Ok(own) => match own.compare(date) {
+        Ok(own) => match own.cmp(date) {
             Ordering::Less => true,
             Ordering::Equal => (i as u32) < number,
             Ordering::Greater => false,

@@ -20,7 +20,7 @@ fn are_in_order(rt: &impl Abort, numbers: &[i32]) -> Result<(), Fail> {
     for (i, left) in numbers.iter().enumerate() {
         for (j, right) in numbers.iter().enumerate() {
             assert_eq!(rt;
-                DayNumber::new(*left).compare(&DayNumber::new(*right)),
+                DayNumber::new(*left).cmp(&DayNumber::new(*right)),
                 i.cmp(&j),
                 "{i} and {j}"
             );

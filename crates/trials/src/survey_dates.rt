@@ -36,7 +36,7 @@ fn are_in_order(rt: &impl Abort, dates: &[(u16, u8, u8)]) -> Result<(), Fail> {
         let left = date(year, month, day)?;
         for (j, &(year, month, day)) in dates.iter().enumerate() {
             let right = date(year, month, day)?;
-            assert_eq!(rt; left.compare(&right), i.cmp(&j), "{i} and {j}");
+            assert_eq!(rt; left.cmp(&right), i.cmp(&j), "{i} and {j}");
         }
     }
     Ok(())
@@ -48,7 +48,7 @@ fn has_bytes(rt: &impl Abort, year: u16, month: u8, day: u8, bytes: [u8; 4]) -> 
     assert_eq!(rt; date.to_bytes(), bytes);
     match SurveyDate::from_bytes(bytes) {
         Ok(again) => {
-            assert_eq!(rt; again.compare(&date), Ordering::Equal);
+            assert_eq!(rt; again.cmp(&date), Ordering::Equal);
             Ok(())
         },
         Err(fault) => Err(Fail::new(fault)),

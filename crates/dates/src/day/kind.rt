@@ -1,10 +1,9 @@
 // Day numbers as a kind of date.
-ghost use Rattle.std.specs.Prelude.{◌≡◌};
+ghost use Rattle.std.specs.Prelude.{◌≡◌, refl};
 ghost use Rattle.dates.specs.Day.{day_numbers, numbered};
 ghost use Rattle.dates.specs.DayLaws.{day_lawful};
 
 use crate::{Date, DayNumber, NoSuchDate};
-use std::cmp::Ordering;
 
 impl DayNumber {
     pub fn new(number: i32) -> DayNumber
@@ -18,14 +17,12 @@ impl DayNumber {
 impl Date for DayNumber {
     ghost model = { day_numbers };
 
+    ghost ordered = { λ _ _. refl };
+
     ghost lawful = { day_lawful };
 
     fn kind() -> u16 {
         1
-    }
-
-    fn compare(&self, other: &DayNumber) -> Ordering {
-        self.number.cmp(&other.number)
     }
 
     fn to_bytes(&self) -> [u8; 4] {

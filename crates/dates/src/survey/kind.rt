@@ -2,11 +2,10 @@
 ghost use Rattle.std.specs.Prelude.{◌≡◌, true};
 ghost use Rattle.dates.specs.Cases.{CalendarCases};
 ghost use Rattle.dates.specs.Survey.{dated, places, survey_dates};
-ghost use Rattle.dates.specs.SurveyLaws.{survey_lawful};
+ghost use Rattle.dates.specs.SurveyLaws.{survey_lawful, survey_ordered};
 
 use crate::survey::calendar::is_date;
 use crate::{Date, NoSuchDate, SurveyDate};
-use std::cmp::Ordering;
 
 impl SurveyDate {
     // Refused where there is no such date.
@@ -19,26 +18,17 @@ impl SurveyDate {
             Err(NoSuchDate)
         }
     }
-
-    // What the order goes by: the first place at which two dates differ decides.
-    fn places(&self) -> [u16; 3]
-        ensures { result ≡ places self.now }
-    {
-        [self.year, self.month as u16, self.day as u16]
-    }
 }
 
 impl Date for SurveyDate {
     ghost model = { survey_dates };
 
+    ghost ordered = { survey_ordered };
+
     ghost lawful = { survey_lawful };
 
     fn kind() -> u16 {
         2
-    }
-
-    fn compare(&self, other: &SurveyDate) -> Ordering {
-        self.places().cmp(&other.places())
     }
 
     fn to_bytes(&self) -> [u8; 4] {
@@ -54,7 +44,8 @@ impl Date for SurveyDate {
 
 // Worked cases of the calendar, shown by computation; the answer says that they hold.
 pub fn calendar_cases() -> bool
-    ensures { (result ≡ true) × (CalendarCases) }
+    ensures answer { result ≡ true }
+    ensures cases { CalendarCases }
 {
     true
 }
