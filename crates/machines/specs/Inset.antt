@@ -3,7 +3,6 @@ use Rattle.std.specs.Prelude.{ℕ, ◌-◌, cond, ◌&&◌, None, nat_le}
 use Rattle.machines.specs.Model.{MachineModel}
 use Rattle.machines.specs.declared.operation.Operation.{Operation}
 use Rattle.machines.specs.declared.operation.Question.{Question}
-use Rattle.machines.specs.declared.operation.Note.TheVariants.{Idle}
 
 -- as they are handed down
 abbrev pub lowered_operation : ℕ → Operation → Operation
@@ -19,6 +18,6 @@ inset base m = record {
   knows = λ operation. nat_le base operation.place && m.knows (lowered_operation base operation);
   answers = λ question. nat_le base question.place && m.answers (lowered_question base question);
   next = λ s operation. cond (nat_le base operation.place) (m.next s (lowered_operation base operation)) s;
-  noted = λ s operation. cond (nat_le base operation.place) (m.noted s (lowered_operation base operation)) Idle;
+  noted = λ s operation. cond (nat_le base operation.place) (m.noted s (lowered_operation base operation)) None;
   reads = λ s question. cond (nat_le base question.place) (m.reads s (lowered_question base question)) None;
 }

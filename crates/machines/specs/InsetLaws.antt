@@ -2,7 +2,6 @@
 use Rattle.std.specs.Prelude.{◌≡◌, ℕ, Bool, true, false, cond, ◌&&◌, None, nat_le, refl}
 use Rattle.machines.specs.Inset.{inset, lowered_operation, lowered_question}
 use Rattle.machines.specs.Model.{MachineModel, Lawful}
-use Rattle.machines.specs.declared.operation.Note.TheVariants.{Idle}
 
 -- below the base nothing comes, and above it what comes of the machine
 fails : {X : Type 0} (above known : Bool) (x none : X) → (known ≡ false → x ≡ none) → (above && known) ≡ false → cond above x none ≡ none
@@ -15,7 +14,7 @@ stays false moved s note idle h e = refl
 
 pub inset_lawful : (base : ℕ) (m : MachineModel) → Lawful m → Lawful (inset base m)
 inset_lawful base m laws = record {
-  unknown = λ s operation. fails _ _ _ Idle (laws.unknown s (lowered_operation base operation));
-  idle = λ s operation. stays (nat_le base operation.place) _ s (m.noted s (lowered_operation base operation)) Idle (laws.idle s (lowered_operation base operation));
+  unknown = λ s operation. fails _ _ _ None (laws.unknown s (lowered_operation base operation));
+  idle = λ s operation. stays (nat_le base operation.place) _ s (m.noted s (lowered_operation base operation)) None (laws.idle s (lowered_operation base operation));
   unanswered = λ s question. fails _ _ _ None (laws.unanswered s (lowered_question base question));
 }

@@ -4,8 +4,10 @@ use Rattle.machines.specs.declared.fault.MachineFault.{MachineFault}
 use Rattle.machines.specs.declared.fault.MachineFault.TheVariants.{UnknownOperation, UnansweredQuestion}
 use Rattle.machines.specs.declared.operation.Operation.{Operation}
 use Rattle.machines.specs.declared.operation.Question.{Question}
-use Rattle.machines.specs.declared.operation.Note.{Note}
-use Rattle.machines.specs.declared.operation.Note.TheVariants.{Idle}
+
+-- what a step notes: none where it was idle, and the number of its move where it moved
+abbrev pub Note : Type 0
+Note = Option ℤ
 
 pub record MachineModel : Type 1 where
   -- the states that the machine can be in
@@ -19,8 +21,8 @@ pub record MachineModel : Type 1 where
 
 pub record Lawful (m : MachineModel) : Type 0 where
   -- an unknown operation is idle, and an idle step leaves the state as it is
-  pub unknown : (s : m.State) (operation : Operation) → m.knows operation ≡ false → m.noted s operation ≡ Idle
-  pub idle : (s : m.State) (operation : Operation) → m.noted s operation ≡ Idle → m.next s operation ≡ s
+  pub unknown : (s : m.State) (operation : Operation) → m.knows operation ≡ false → m.noted s operation ≡ None
+  pub idle : (s : m.State) (operation : Operation) → m.noted s operation ≡ None → m.next s operation ≡ s
   -- an unanswered question reads none
   pub unanswered : (s : m.State) (question : Question) → m.answers question ≡ false → m.reads s question ≡ None
 

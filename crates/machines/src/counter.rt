@@ -5,52 +5,56 @@ ghost use Rattle.machines.specs.Model.{TakesBack};
 use crate::{Machine, Note, Operation, Question};
 use std::alloc::{AllocError, Global};
 
-// The machine is reached through the counter alone, so that no step goes uncounted. A count stops at u32::MAX.
+// How many steps were counted. A count stops at u32::MAX.
+#[derive(Clone, Copy, PartialEq, Eq, Default)]
+pub struct Steps {
+    pub back: u32,
+    pub forward: u32,
+}
+
+// The machine is reached through the counter alone, so that no step goes uncounted.
 #[derive(Drop)]
 pub struct Counter<M> {
     machine: M,
-    back: u32,
-    forward: u32,
+    steps: Steps,
 }
 
 impl<M: Machine> Counter<M> {
     // An empty machine, and no steps.
     pub fn new(heap: Global) -> Result<Counter<M>, AllocError>
-        ensures { IfOk result (λ counter. (M.state counter.machine ≡ M.model.empty) × (counter.back ≡ 0) × (counter.forward ≡ 0)) }
+        ensures { IfOk result (λ counter. (M.state counter.machine ≡ M.model.empty) × (counter.steps.back ≡ 0) × (counter.steps.forward ≡ 0)) }
     {
         Ok(Counter {
             machine: M::new(heap)?,
-            back: 0,
-            forward: 0,
+            steps: Steps::default(),
         })
     }
 
     // Counts from 0 again.
     pub fn begin(&mut self)
         ensures machine { self.new.machine ≡ self.old.machine }
-        ensures back { self.new.back ≡ 0 }
-        ensures forward { self.new.forward ≡ 0 }
+        ensures back { self.new.steps.back ≡ 0 }
+        ensures forward { self.new.steps.forward ≡ 0 }
     {
-        self.back = 0;
-        self.forward = 0;
+        self.steps = Steps::default();
     }
 
     pub fn step(&mut self, operation: &Operation) -> Note
         ensures next { M.state self.new.machine ≡ M.model.next (M.state self.old.machine) operation.now }
         ensures noted { result ≡ M.model.noted (M.state self.old.machine) operation.now }
-        ensures back { self.new.back ≡ self.old.back }
-        ensures forward { self.new.forward ≡ min (self.old.forward + 1) (2 ^ 32 - 1) }
+        ensures back { self.new.steps.back ≡ self.old.steps.back }
+        ensures forward { self.new.steps.forward ≡ min (self.old.steps.forward + 1) (2 ^ 32 - 1) }
     {
-        self.forward = self.forward.saturating_add(1);
+        self.steps.forward = self.steps.forward.saturating_add(1);
         self.machine.step(operation)
     }
 
     pub fn take_back(&mut self, operation: &Operation, note: Note)
         ensures undoes { TakesBack M.model (M.state self.old.machine) operation.now note (M.state self.new.machine) }
-        ensures back { self.new.back ≡ min (self.old.back + 1) (2 ^ 32 - 1) }
-        ensures forward { self.new.forward ≡ self.old.forward }
+        ensures back { self.new.steps.back ≡ min (self.old.steps.back + 1) (2 ^ 32 - 1) }
+        ensures forward { self.new.steps.forward ≡ self.old.steps.forward }
     {
-        self.back = self.back.saturating_add(1);
+        self.steps.back = self.steps.back.saturating_add(1);
         self.machine.take_back(operation, note);
     }
 
@@ -60,10 +64,10 @@ impl<M: Machine> Counter<M> {
         self.machine.read(question)
     }
 
-    // The steps counted: back, then forward.
-    pub fn steps(&self) -> (u32, u32)
-        ensures { result ≡ (self.now.back, self.now.forward) }
+    // The steps counted.
+    pub fn steps(&self) -> Steps
+        ensures { result ≡ self.now.steps }
     {
-        (self.back, self.forward)
+        self.steps
     }
 }

@@ -4,7 +4,7 @@ ghost use Rattle.machines.specs.Refusals.{number, giver, words};
 
 use std::fmt;
 
-#[derive(Clone, Copy)]
+#[derive(Clone, Copy, PartialEq, Eq)]
 pub enum MachineFault {
     // The machine does not know the operation.
     UnknownOperation,

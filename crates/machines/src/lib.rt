@@ -8,9 +8,9 @@ pub mod machine;
 pub mod operation;
 pub mod pair;
 
-pub use counter::Counter;
+pub use counter::{Counter, Steps};
 pub use fault::MachineFault;
-pub use inset::{At, Base, Inset, Shifted};
+pub use inset::Inset;
 pub use machine::{Machine, check_operation, check_question};
 pub use operation::{Note, Operation, Question};
 pub use pair::Pair;

@@ -52,7 +52,8 @@ pub fn check_operation<M: Machine>(operation: &Operation) -> Result<(), MachineF
     }
 }
 
-// Refuses a question that the machine does not answer.
+// Refuses a question that the machine does not answer. This and `check_operation` stay two: one function for both would need a trait over
+// operations and questions, whose two blocks name the method and the fault of each again.
 pub fn check_question<M: Machine>(question: &Question) -> Result<(), MachineFault>
     ensures { result ≡ answered M.model question.now }
 {

@@ -29,6 +29,7 @@ impl<F: Machine, S: Machine> Machine for Pair<F, S> {
         F::knows(operation) || S::knows(operation)
     }
 
+    // As `knows`, of the other type: the interface has a method for each.
     fn answers(question: &Question) -> bool {
         F::answers(question) || S::answers(question)
     }

@@ -6,15 +6,15 @@ use Rattle.std.proofs.lemmas.Bool.{cond_both}
 use Rattle.machines.specs.Model.{MachineModel}
 use Rattle.machines.specs.declared.operation.Operation.{Operation}
 use Rattle.machines.specs.declared.operation.Question.{Question}
-use Rattle.machines.specs.declared.operation.Note.TheVariants.{Idle, Moved}
 use Rattle.primitives.specs.Bounded.{Bound, bounded}
+use Rattle.primitives.specs.Numbers.{asks_number, number_asked}
 use Rattle.primitives.specs.Ranges.{up_to}
 
 abbrev pub is_set : Operation → Bool
 is_set operation = operation.code == 4 && nat_lt operation.place 64 && up_to 7 operation.amount
 
 abbrev pub asks_status : Question → Bool
-asks_status question = question.code == 4 && nat_lt question.place 64 && up_to 0 question.index
+asks_status = asks_number 4
 
 -- over any list of statuses
 abbrev pub plain_board : MachineModel
@@ -24,8 +24,8 @@ plain_board = record {
   knows = is_set;
   answers = asks_status;
   next = λ s operation. cond (is_set operation) (slice_set s operation.place operation.amount) s;
-  noted = λ s operation. cond (is_set operation) (Moved (slice_index_or s operation.place (pos 0))) Idle;
-  reads = λ s question. cond (asks_status question) (Some (slice_index_or s question.place (pos 0))) None;
+  noted = λ s operation. cond (is_set operation) (Some (slice_index_or s operation.place (pos 0))) None;
+  reads = number_asked 4;
 }
 
 pub board_bound : Bound plain_board (λ s. length s ≡ 64)

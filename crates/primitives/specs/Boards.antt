@@ -1,10 +1,9 @@
 -- The laws of a board, and what its step tells of the statuses before it.
-use Rattle.std.specs.Prelude.{◌≡◌, true, List, ℤ, pos, slice_index_or, slice_set}
+use Rattle.std.specs.Prelude.{◌≡◌, true, List, ℤ, pos, Some, slice_index_or, slice_set}
 use Rattle.std.proofs.lemmas.Bool.{cond-false}
 use Rattle.machines.specs.Model.{Lawful}
 use Rattle.machines.specs.declared.operation.Operation.{Operation}
-use Rattle.machines.specs.declared.operation.Note.{Note}
-use Rattle.machines.specs.declared.operation.Note.TheVariants.{Moved}
+use Rattle.machines.specs.Model.{Note}
 use Rattle.primitives.specs.Board.{plain_board, is_set}
 use Rattle.primitives.specs.Steps.{cond_idle, cond_moved, set_back}
 
@@ -15,8 +14,8 @@ board_lawful = record {
   unanswered = λ s question h. cond-false _ _ _ h;
 }
 
-pub board_back : (s l : List ℤ) (operation : Operation) (old : ℤ) → plain_board.next s operation ≡ l → plain_board.noted s operation ≡ Moved old → slice_set l operation.place old ≡ s
+pub board_back : (s l : List ℤ) (operation : Operation) (old : ℤ) → plain_board.next s operation ≡ l → plain_board.noted s operation ≡ Some old → slice_set l operation.place old ≡ s
 board_back s l operation old led gave =
     let moved : is_set operation ≡ true = cond_moved _ _ _ gave in
-    let told : ◌≡◌ {A = Note} (Moved (slice_index_or s operation.place (pos 0))) (Moved old) = rw moved at gave in
+    let told : ◌≡◌ {A = Note} (Some (slice_index_or s operation.place (pos 0))) (Some old) = rw moved at gave in
     set_back s l operation.place _ (pos 0) (rw moved at led) old (cc)

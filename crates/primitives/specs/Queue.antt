@@ -7,8 +7,7 @@ use Rattle.std.specs.List.{slice_get}
 use Rattle.machines.specs.Model.{MachineModel}
 use Rattle.machines.specs.declared.operation.Operation.{Operation}
 use Rattle.machines.specs.declared.operation.Question.{Question}
-use Rattle.machines.specs.declared.operation.Note.{Note}
-use Rattle.machines.specs.declared.operation.Note.TheVariants.{Idle, Moved}
+use Rattle.machines.specs.Model.{Note}
 use Rattle.primitives.specs.Bounded.{Bound, bounded}
 use Rattle.primitives.specs.Ranges.{up_to}
 
@@ -34,11 +33,11 @@ abbrev pub ordered : List ℤ → ℤ → List ℤ
 ordered s job = cond (has_room s) (s ++ (job ∷ [])) s
 
 abbrev pub order_note : List ℤ → Note
-order_note s = cond (has_room s) (Moved (pos 0)) Idle
+order_note s = cond (has_room s) (Some (pos 0)) None
 
 abbrev pub draw_note : List ℤ → Note
-draw_note [] = Idle
-draw_note (job ∷ rest) = Moved job
+draw_note [] = None
+draw_note (job ∷ rest) = Some job
 
 -- over any list of jobs
 abbrev pub plain_queue : MachineModel
@@ -48,7 +47,7 @@ plain_queue = record {
   knows = λ operation. is_order operation || is_draw operation;
   answers = λ question. asks_length question || asks_job question;
   next = λ s operation. cond (is_order operation) (ordered s operation.amount) (cond (is_draw operation) (drop 1 s) s);
-  noted = λ s operation. cond (is_order operation) (order_note s) (cond (is_draw operation) (draw_note s) Idle);
+  noted = λ s operation. cond (is_order operation) (order_note s) (cond (is_draw operation) (draw_note s) None);
   reads = λ s question. cond (asks_length question) (Some (pos (length s))) (cond (asks_job question) (slice_get s (unsigned_abs question.index)) None);
 }
 

@@ -1,12 +1,11 @@
 -- What a step tells of the state before it, and the laws of a bounded machine.
-use Rattle.std.specs.Prelude.{◌≡◌, ℕ, ◌<◌, Bool, true, false, cond, List, length, get_or, set, ℤ, slice_index_or, slice_set, refl}
+use Rattle.std.specs.Prelude.{◌≡◌, ℕ, ◌<◌, Bool, true, false, cond, List, length, None, Some, get_or, set, ℤ, slice_index_or, slice_set, refl}
 use Rattle.std.proofs.Common.{sym, ap, ◌∙◌, arith, get_or-set_same, set-set}
 use mathlib.Core.HLevel.{Σ_prop_path}
 use Rattle.std.proofs.lemmas.List.{set-get_or}
 use Rattle.machines.specs.Model.{MachineModel, Lawful, TakesBack}
 use Rattle.machines.specs.declared.operation.Operation.{Operation}
-use Rattle.machines.specs.declared.operation.Note.{Note}
-use Rattle.machines.specs.declared.operation.Note.TheVariants.{Idle, Moved}
+use Rattle.machines.specs.Model.{Note}
 use Rattle.primitives.specs.Bounded.{Bound, bounded}
 
 module _ (m : MachineModel) {Valid : m.State → Type 0} (bound : Bound m Valid) where
@@ -18,19 +17,19 @@ module _ (m : MachineModel) {Valid : m.State → Type 0} (bound : Bound m Valid)
   }
 
   -- an idle step is taken back by doing nothing
-  pub idle_back : Lawful m → (now : (s : m.State) × Valid s) (operation : Operation) (note : Note) → note ≡ Idle → TakesBack (bounded m bound) now operation note now
-  idle_back laws now operation note idle s led gave = sym led ∙ (bounded_lawful laws).idle s operation (gave ∙ idle)
+  pub idle_back : Lawful m → (now : (s : m.State) × Valid s) (operation : Operation) (given : Note) → given ≡ None → TakesBack (bounded m bound) now operation given now
+  idle_back laws now operation given idle s led gave = sym led ∙ (bounded_lawful laws).idle s operation (gave ∙ idle)
 
   -- the valid states of the model below are enough
-  pub bounded_back : (now after : (s : m.State) × Valid s) (operation : Operation) (note : Note) → ((s : m.State) → Valid s → m.next s operation ≡ now.0 → m.noted s operation ≡ note → after.0 ≡ s) → TakesBack (bounded m bound) now operation note after
-  bounded_back now after operation note back s led gave = Σ_prop_path bound.once (back s.0 s.1 (ap (λ t. t.0) led) gave)
+  pub bounded_back : (now after : (s : m.State) × Valid s) (operation : Operation) (given : Note) → ((s : m.State) → Valid s → m.next s operation ≡ now.0 → m.noted s operation ≡ given → after.0 ≡ s) → TakesBack (bounded m bound) now operation given after
+  bounded_back now after operation given back s led gave = Σ_prop_path bound.once (back s.0 s.1 (ap (λ t. t.0) led) gave)
 
 -- a step that moves under a test
-pub cond_idle : {S : Type 0} (b : Bool) (n : ℤ) (moved s : S) → cond b (Moved n) Idle ≡ Idle → cond b moved s ≡ s
+pub cond_idle : {S : Type 0} (b : Bool) (n : ℤ) (moved s : S) → cond b (Some n) None ≡ None → cond b moved s ≡ s
 cond_idle true n moved s h = let z : ◌≡◌ {A = ℕ} 0 1 = cc in absurd (omega arith)
 cond_idle false n moved s h = refl
 
-pub cond_moved : (b : Bool) (n k : ℤ) → cond b (Moved n) Idle ≡ Moved k → b ≡ true
+pub cond_moved : (b : Bool) (n k : ℤ) → cond b (Some n) None ≡ Some k → b ≡ true
 cond_moved true n k h = refl
 cond_moved false n k h = let z : ◌≡◌ {A = ℕ} 0 1 = cc in absurd (omega arith)
 

@@ -1,5 +1,5 @@
 -- The laws of a tally, and what its step tells of the counts before it.
-use Rattle.std.specs.Prelude.{◌≡◌, ◌<◌, true, List, length, get_or, ℤ, pos, ◌+ℤ◌, ◌-ℤ◌, FitsSigned, slice_index_or, slice_set}
+use Rattle.std.specs.Prelude.{◌≡◌, ◌<◌, true, List, length, get_or, ℤ, pos, ◌+ℤ◌, ◌-ℤ◌, Some, FitsSigned, slice_index_or, slice_set}
 use Rattle.std.proofs.Common.{sym, ◌∙◌, arith}
 use Rattle.std.specs.Int.{int_wrap, w32}
 use Rattle.std.proofs.lemmas.Int.{ints, int_wrap_fits}
@@ -7,7 +7,6 @@ use Rattle.std.proofs.lemmas.Bool.{cond-false, and_left}
 use Rattle.std.proofs.lemmas.Bool.Decides.{nat_tests}
 use Rattle.machines.specs.Model.{Lawful}
 use Rattle.machines.specs.declared.operation.Operation.{Operation}
-use Rattle.machines.specs.declared.operation.Note.TheVariants.{Moved}
 use Rattle.primitives.specs.Ranges.{within}
 use Rattle.primitives.specs.Tally.{plain_tally, moves, sum}
 use Rattle.primitives.specs.Steps.{cond_idle, cond_moved, written, set_back}
@@ -26,7 +25,7 @@ taken_off before amount count e small inside =
     let fits : FitsSigned w32 (count -ℤ amount) = record { sfits = grind (arith, ints) } in
     int_wrap_fits w32 _ fits ∙ is
 
-module _ (s l : List ℤ) (operation : Operation) (k : ℤ) (long : length s ≡ 64) (led : plain_tally.next s operation ≡ l) (gave : plain_tally.noted s operation ≡ Moved k) where
+module _ (s l : List ℤ) (operation : Operation) (k : ℤ) (long : length s ≡ 64) (led : plain_tally.next s operation ≡ l) (gave : plain_tally.noted s operation ≡ Some k) where
   moved : moves s operation ≡ true
   moved = cond_moved _ _ _ gave
 

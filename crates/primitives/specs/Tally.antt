@@ -6,15 +6,15 @@ use Rattle.std.proofs.lemmas.Bool.{cond_both}
 use Rattle.machines.specs.Model.{MachineModel}
 use Rattle.machines.specs.declared.operation.Operation.{Operation}
 use Rattle.machines.specs.declared.operation.Question.{Question}
-use Rattle.machines.specs.declared.operation.Note.TheVariants.{Idle, Moved}
 use Rattle.primitives.specs.Bounded.{Bound, bounded}
-use Rattle.primitives.specs.Ranges.{within, up_to}
+use Rattle.primitives.specs.Numbers.{asks_number, number_asked}
+use Rattle.primitives.specs.Ranges.{within}
 
 abbrev pub is_change : Operation → Bool
 is_change operation = operation.code == 1 && nat_lt operation.place 64 && within 1_000_000 operation.amount
 
 abbrev pub asks_count : Question → Bool
-asks_count question = question.code == 1 && nat_lt question.place 64 && up_to 0 question.index
+asks_count = asks_number 1
 
 abbrev pub sum : List ℤ → Operation → ℤ
 sum s operation = slice_index_or s operation.place (pos 0) +ℤ operation.amount
@@ -31,8 +31,8 @@ plain_tally = record {
   knows = is_change;
   answers = asks_count;
   next = λ s operation. cond (moves s operation) (slice_set s operation.place (sum s operation)) s;
-  noted = λ s operation. cond (moves s operation) (Moved (pos 0)) Idle;
-  reads = λ s question. cond (asks_count question) (Some (slice_index_or s question.place (pos 0))) None;
+  noted = λ s operation. cond (moves s operation) (Some (pos 0)) None;
+  reads = number_asked 1;
 }
 
 pub tally_bound : Bound plain_tally (λ s. length s ≡ 64)

@@ -30,13 +30,11 @@ pub struct Queue {
     ghost few: { Few jobs.items },
 }
 
+// The four tests stay apart: one function in place of them would take each of these numbers as a parameter, and say less.
 pub fn is_order(operation: &Operation) -> bool
     ensures { result ≡ is_order operation.now }
 {
-    operation.code == ORDER
-        && operation.place == 0
-        && 0 <= operation.amount
-        && operation.amount <= LAST_JOB
+    operation.code == ORDER && operation.place == 0 && (0..=LAST_JOB).contains(&operation.amount)
 }
 
 pub fn is_draw(operation: &Operation) -> bool
@@ -54,10 +52,7 @@ fn asks_length(question: &Question) -> bool
 fn asks_job(question: &Question) -> bool
     ensures { result ≡ asks_job question.now }
 {
-    question.code == DRAW
-        && question.place == 0
-        && 0 <= question.index
-        && question.index <= LAST_INDEX
+    question.code == DRAW && question.place == 0 && (0..=LAST_INDEX).contains(&question.index)
 }
 
 impl Queue {
@@ -65,10 +60,7 @@ impl Queue {
     fn job(&self, index: usize) -> Option<i64>
         ensures { result ≡ slice_get self.now.jobs.items index }
     {
-        match self.jobs.get(index) {
-            Some(job) => Some(*job as i64),
-            None => None,
-        }
+        self.jobs.get(index).map(|job| *job as i64)
     }
 
     fn order(&mut self, job: i32) -> Note
@@ -76,28 +68,24 @@ impl Queue {
         ensures noted { result ≡ order_note self.old.jobs.items }
     {
         if self.jobs.len() >= MOST_JOBS {
-            return Note::Idle;
+            return None;
         }
         self.jobs.push_back_reserved(job);
-        Note::Moved(0)
+        Some(0)
     }
 
-    // `remove(0)` says that the capacity stays.
     fn draw(&mut self) -> Note
         ensures jobs { self.new.jobs.items ≡ drop 1 self.old.jobs.items }
         ensures noted { result ≡ draw_note self.old.jobs.items }
     {
-        match self.jobs.remove(0) {
-            Some(job) => Note::Moved(job),
-            None => Note::Idle,
-        }
+        self.jobs.pop_front()
     }
 
-    // Takes the last job off again. `truncate` says that the capacity stays.
+    // Takes the last job off again.
     fn take_back_order(&mut self)
         ensures { self.new.jobs.items ≡ take (length self.old.jobs.items - 1) self.old.jobs.items }
     {
-        self.jobs.truncate(self.jobs.len().saturating_sub(1));
+        let _ = self.jobs.pop_back();
     }
 
     // Puts the job back at the front, where there is room.
@@ -137,12 +125,12 @@ impl Machine for Queue {
         } else if is_draw(operation) {
             self.draw()
         } else {
-            Note::Idle
+            None
         }
     }
 
     fn take_back(&mut self, operation: &Operation, note: Note) {
-        let Note::Moved(job) = note else {
+        let Some(job) = note else {
             return;
         };
         if is_order(operation) {

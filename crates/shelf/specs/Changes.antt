@@ -3,15 +3,14 @@ use Rattle.std.specs.Prelude.{◌≡◌, ℕ, ◌+◌, ◌<◌, ◌≤◌, Bool,
 use Rattle.avl.specs.Summary.{SummaryModel}
 use Rattle.dates.specs.Model.{DateModel}
 use Rattle.machines.specs.declared.operation.Operation.{Operation}
-use Rattle.machines.specs.declared.operation.Note.{Note}
-use Rattle.machines.specs.declared.operation.Note.TheVariants.{Idle}
+use Rattle.machines.specs.Model.{Note}
 use Rattle.slots.specs.declared.slot.Slot.{Slot}
 use Rattle.slots.specs.Slots.{Entry, slot, entries}
 use Rattle.shelf.specs.Sound.{Sound}
 
 -- an entry as it comes in
 abbrev pub newly : List ℕ → Operation → Entry
-newly date operation = record { date = date; operation = operation; standing = true; note = Idle }
+newly date operation = record { date = date; operation = operation; standing = true; note = None }
 
 abbrev pub voided : Entry → Entry
 voided e = record { date = e.date; operation = e.operation; standing = false; note = e.note }

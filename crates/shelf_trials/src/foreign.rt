@@ -1,7 +1,6 @@
 // Shelves of content that no call wrote: every call returns, and writes its own entry.
 use crate::entries::{cell, change, day, survey_date};
 use dates::{Date, DayNumber, SurveyDate};
-use machines::Note;
 use shelf::{add, count_before, count_up_to, figure_up_to, find, void};
 use slots::Slot;
 use std::test::Fail;
@@ -13,7 +12,7 @@ fn linked(left: u16, right: u16, level: u16, count: u16, total: i64) -> Slot<Sum
         date: day(-1).to_bytes(),
         operation: change(1),
         standing: true,
-        note: Note::Idle,
+        note: None,
         left,
         right,
         level,

@@ -2,7 +2,6 @@
 use crate::checks::all_is_kept;
 use crate::entries::{cell, change, day, fill_days};
 use dates::DayNumber;
-use machines::Note;
 use shelf::{add, set_note, void};
 use slots::Slot;
 use slots::figures::{count_at, level_at};
@@ -48,8 +47,8 @@ fn a_number_past_the_shelf_is_neither_voided_nor_noted(rt: HostRuntime) -> Resul
     let before = shelf;
     void::<DayNumber, CellWatch>(&mut shelf, root, 3, &watch);
     void::<DayNumber, CellWatch>(&mut shelf, root, u16::MAX, &watch);
-    set_note::<DayNumber, Sum>(&mut shelf, 3, Note::Moved(7));
-    set_note::<DayNumber, Sum>(&mut shelf, u16::MAX, Note::Moved(7));
+    set_note::<DayNumber, Sum>(&mut shelf, 3, Some(7));
+    set_note::<DayNumber, Sum>(&mut shelf, u16::MAX, Some(7));
     all_is_kept(&rt, &before, &shelf)
 }
 
@@ -71,11 +70,11 @@ fn a_note_changes_nothing_else(rt: HostRuntime) -> Result<(), Fail> {
     let mut shelf = [Slot::blank(); 3];
     let _root = fill_days(&mut shelf, &[3, 1, 2], &cell(0)?)?;
     let mut noted = shelf;
-    noted[1].note = Note::Moved(7);
-    set_note::<DayNumber, Sum>(&mut shelf, 1, Note::Moved(7));
+    noted[1].note = Some(7);
+    set_note::<DayNumber, Sum>(&mut shelf, 1, Some(7));
     all_is_kept(&rt, &noted, &shelf)?;
-    noted[1].note = Note::Idle;
-    set_note::<DayNumber, Sum>(&mut shelf, 1, Note::Idle);
+    noted[1].note = None;
+    set_note::<DayNumber, Sum>(&mut shelf, 1, None);
     all_is_kept(&rt, &noted, &shelf)
 }
 
@@ -86,7 +85,7 @@ fn a_slot_without_an_entry_keeps_its_content(rt: HostRuntime) -> Result<(), Fail
         date: [1, 2, 3, 4],
         operation: change(6),
         standing: true,
-        note: Note::Moved(7),
+        note: Some(7),
         left: 0,
         right: 1,
         level: 8,

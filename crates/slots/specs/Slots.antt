@@ -1,9 +1,8 @@
 -- A slot's two parts: its entry, and its place in the tree.
-use Rattle.std.specs.Prelude.{◌≡◌, ℕ, ◌+◌, min, Bool, false, cond, List, [], ◌∷◌, length, pos, slice_index_or}
+use Rattle.std.specs.Prelude.{◌≡◌, ℕ, ◌+◌, min, Bool, false, cond, List, [], ◌∷◌, length, pos, None, slice_index_or}
 use Rattle.avl.specs.Summary.{SummaryModel}
 use Rattle.machines.specs.declared.operation.Operation.{Operation}
-use Rattle.machines.specs.declared.operation.Note.{Note}
-use Rattle.machines.specs.declared.operation.Note.TheVariants.{Idle}
+use Rattle.machines.specs.Model.{Note}
 use Rattle.slots.specs.declared.slot.Slot.{Slot}
 
 pub record Entry : Type 0 where
@@ -33,7 +32,7 @@ count_over left standing right = min (left + cond standing 1 0 + right) 65535
 module _ {S : Type 0} (model : SummaryModel S) where
   -- a slot that has no entry yet; also what a link past the slots finds
   abbrev pub blank : Slot S
-  blank = record { date = 0 ∷ 0 ∷ 0 ∷ 0 ∷ []; operation = record { code = 0; place = 0; amount = pos 0 }; standing = false; note = Idle; left = 0; right = 0; level = 0; count = 0; joined = model.unit }
+  blank = record { date = 0 ∷ 0 ∷ 0 ∷ 0 ∷ []; operation = record { code = 0; place = 0; amount = pos 0 }; standing = false; note = None; left = 0; right = 0; level = 0; count = 0; joined = model.unit }
 
   abbrev pub slot : List (Slot S) → ℕ → Slot S
   slot slots i = slice_index_or slots i blank

@@ -8,7 +8,7 @@ use watches::{Summary, Watch};
 
 // Whoever lends the shelf may write to it, so a slot promises nothing by itself: links, level, count and joined summary
 // mean something only where the whole shelf is sound.
-#[derive(Clone, Copy)]
+#[derive(Clone, Copy, PartialEq, Eq)]
 pub struct Slot<S> {
     // the form of four bytes of the entry's date
     pub date: [u8; 4],
@@ -41,7 +41,7 @@ impl<S: Summary> Slot<S> {
                 amount: 0,
             },
             standing: false,
-            note: Note::Idle,
+            note: None,
             left: 0,
             right: 0,
             level: 0,

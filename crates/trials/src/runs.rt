@@ -50,21 +50,13 @@ fn question(code: u16, place: u16, index: i32) -> Question {
     Question { code, place, index }
 }
 
-// The number that a note holds; none where the step was idle.
-fn number_of(note: Note) -> Option<i32> {
-    match note {
-        Note::Idle => None,
-        Note::Moved(number) => Some(number),
-    }
-}
-
 impl<M: Machine> Trial<M> {
     fn step(&mut self, i: usize, operation: Operation) -> Result<Option<i32>, Fail> {
         let note = self.counter.step(&operation);
         if self.steps.push((operation, note)).is_err() {
             return Err(Fail::new(format_args!("act {i}: no memory")));
         }
-        Ok(number_of(note))
+        Ok(note)
     }
 
     fn repeat(
@@ -107,7 +99,8 @@ impl<M: Machine> Trial<M> {
                 Ok(())
             }
             Act::Counts(back, forward) => {
-                assert_eq!(rt; self.counter.steps(), (back, forward), "act {i}");
+                let steps = self.counter.steps();
+                assert_eq!(rt; (steps.back, steps.forward), (back, forward), "act {i}");
                 Ok(())
             }
             Act::Begins => {

@@ -5,7 +5,7 @@ ghost use Rattle.std.proofs.Common.{rules};
 use crate::Summary;
 
 // The draws that no job of the row met, and the jobs that no draw of the row took.
-#[derive(Clone, Copy)]
+#[derive(Clone, Copy, PartialEq, Eq)]
 pub struct Span {
     pub unmet: u32,
     pub left: u32,

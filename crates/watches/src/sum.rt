@@ -8,7 +8,7 @@ use crate::Summary;
 // The most that a unit of weight holds: the largest amount of a change.
 const AMOUNT_PER_WEIGHT: u64 = 1_000_000;
 
-#[derive(Clone, Copy)]
+#[derive(Clone, Copy, PartialEq, Eq)]
 pub struct Sum {
     pub total: i64,
 }

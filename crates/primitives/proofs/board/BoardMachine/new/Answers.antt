@@ -1,8 +1,7 @@
 -- That it is empty when new.
-use Rattle.std.proofs.Common.{refl}
 use mathlib.Core.HLevel.{Σ_prop_path}
 use Rattle.primitives.specs.Board.{board_bound}
 use Rattle.primitives.proofs.board.BoardMachine.new.Goals as goal
 
 pub returns : goal.returns
-returns c = Σ_prop_path board_bound.once refl
+returns c = Σ_prop_path board_bound.once c.new.ensures

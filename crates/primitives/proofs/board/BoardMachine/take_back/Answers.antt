@@ -12,7 +12,7 @@ returns-in_default c = idle_back plain_board board_bound board_lawful _ c.args.o
 pub returns-then-knows : goal.returns-then-knows
 returns-then-knows c =
     let operation = c.args.operation.now in
-    let l = c.args.self.now.statuses in
-    let fits : SFits w32 c.in-Moved.old = search rules in
+    let l = c.args.self.now.statuses.items in
+    let fits : SFits w32 c.in-Some.old = search rules in
     bounded_back plain_board board_bound _ _ operation _
-    (λ s long led gave. ap (set l operation.place) (to_z-of_z w32 _ fits) ∙ board_back s l operation _ led (gave ∙ c.in-Moved.is))
+    (λ s long led gave. ap (set l operation.place) (to_z-of_z w32 _ fits) ∙ board_back s l operation _ led (gave ∙ c.in-Some.is))

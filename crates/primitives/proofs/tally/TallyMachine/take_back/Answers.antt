@@ -12,8 +12,8 @@ returns-in_default c = idle_back plain_tally tally_bound tally_lawful _ c.args.o
 pub returns-then-knows : goal.returns-then-knows
 returns-then-knows c =
     let operation = c.args.operation.now in
-    let l = c.args.self.now.counts in
+    let l = c.args.self.now.counts.items in
     let fits_count : SFits w32 (get_or l operation.place (pos 0)) = search rules in
     let fits_amount : SFits w32 operation.amount = search rules in
     bounded_back plain_tally tally_bound _ _ operation _
-    (λ s long led gave. ap (set l operation.place) (wrapping_sub_is w32 _ _ fits_count fits_amount) ∙ tally_back s l operation _ long led (gave ∙ c.in-Moved.is))
+    (λ s long led gave. ap (set l operation.place) (wrapping_sub_is w32 _ _ fits_count fits_amount) ∙ tally_back s l operation _ long led (gave ∙ c.in-Some.is))

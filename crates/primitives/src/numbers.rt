@@ -1,0 +1,40 @@
+// What a tally and a board share: 64 numbers, one for each place, and the question that reads one of them.
+ghost use Rattle.std.specs.Prelude.{◌≡◌, length, replicate, pos};
+ghost use Rattle.primitives.specs.Numbers.{asks_number, number_asked};
+
+use machines::Question;
+
+pub(crate) const PLACES: usize = 64;
+
+// The numbers of the places, all 0 at first. The question of the code CODE reads one of them.
+#[derive(Drop)]
+pub(crate) struct Numbers<const CODE: u16> {
+    pub(crate) items: [i32; PLACES],
+    ghost long: { length items ≡ 64 },
+}
+
+impl<const CODE: u16> Numbers<CODE> {
+    pub(crate) fn new() -> Numbers<CODE>
+        ensures { result.items ≡ replicate 64 (pos 0) }
+    {
+        Numbers { items: [0; PLACES] }
+    }
+
+    // Whether the question asks for one of the numbers.
+    pub(crate) fn answers(question: &Question) -> bool
+        ensures { result ≡ asks_number CODE question.now }
+    {
+        question.code == CODE && (question.place as usize) < PLACES && question.index == 0
+    }
+
+    // The number that the question asks for; none where it asks for none of them.
+    pub(crate) fn read(&self, question: &Question) -> Option<i64>
+        ensures { result ≡ number_asked CODE self.now.items question.now }
+    {
+        if Self::answers(question) {
+            Some(self.items[question.place as usize] as i64)
+        } else {
+            None
+        }
+    }
+}
