@@ -1,3 +1,2 @@
 -- The lemmas.
 pub mod Placing
-pub mod Replaying

@@ -1,63 +1,53 @@
--- The place of a new entry is found from the end, and keeps book order.
-use Rattle.std.proofs.Common.{◌≡◌, ℕ, suc, ◌+◌, ◌-◌, ◌<◌, ◌≤◌, Bool, true, false, List, [], ◌∷◌, ◌++◌, reverse, length, get_or, take, drop, sym, refl, ap, ◌∙◌, subst, inl, inr, arith}
+-- The place of a new entry divides the entries into those dated no later and those that are later, and keeps book order.
+use Rattle.std.proofs.Common.{◌≡◌, ℕ, zero, suc, ◌+◌, ◌-◌, ◌<◌, ◌≤◌, Bool, true, false, not, List, [], ◌∷◌, reverse, length, get_or, take, drop, sym, refl, ap, ◌∙◌, subst, inl, inr, arith, rules}
 use mathlib.Core.List.{reverse-cons}
-use Rattle.std.specs.List.{prefix_len, suffix_len, insert, AllByRecursion}
-use Rattle.std.proofs.lemmas.List.Edits.{length-insert}
-use Rattle.std.proofs.ByRecursion.{All-append, All-drop, All-push, All-take, All-weaker}
-use Rattle.std.proofs.lemmas.List.{length-reverse, take_all}
-use Rattle.std.proofs.lemmas.List.Sums.{suffix_len-le-length, suffix_len-take_no, suffix_len-take_yes}
+use Rattle.std.specs.List.{suffix_len, insert, AllByRecursion}
+use Rattle.std.specs.List.Sorted.{IsPartitionPoint, IsPartitionedBy}
 use Rattle.std.proofs.lemmas.Bool.{cond_both}
+use Rattle.std.proofs.lemmas.List.Edits.{length-insert}
+use Rattle.std.proofs.lemmas.List.Elements.{All-append, All-cons, All-drop, All-from_recursion, All-take, All-weaker, recursion_from_All}
+use Rattle.std.proofs.lemmas.List.Folds.{prefix_len-append}
+use Rattle.std.proofs.lemmas.List.Sums.{suffix_len-le-length, suffix_len_is}
 use Rattle.dates.specs.Model.{DateModel, Lawful}
 use Rattle.machines.specs.Model.{MachineModel}
 use Rattle.machines.specs.declared.operation.Operation.{Operation}
 use Rattle.book.specs.Answers.{coming, after}
-use Rattle.book.specs.Order.{later, place, placed, Before, Sorted, InBookOrder}
+use Rattle.book.specs.Order.{later, place, placed, up_to, Before, Sorted, InBookOrder}
 use Rattle.book.specs.declared.call.Call.{Call}
 use Rattle.book.specs.declared.call.Call.TheVariants.{Enter, Ask}
 use Rattle.book.specs.declared.entries.Entry.{Entry}
 
-module _ {X : Type 0} (p : X → Bool) where
-  -- all from n on pass
-  abbrev pub Passed : List X → ℕ → Type 0
-  Passed xs n = (n ≤ length xs) × (n + suffix_len p xs ≡ length xs + suffix_len p (take n xs))
+-- an element in front that fails is none of those at the end that pass
+suffix_behind : {X : Type 0} (p : X → Bool) (x : X) (xs : List X) → p x ≡ false → suffix_len p (x ∷ xs) ≡ suffix_len p xs
+suffix_behind p x xs fails = rw (reverse-cons x xs, prefix_len-append p (reverse xs) (x ∷ [])) (grind arith)
 
-  pub passed_none : (xs : List X) (n : ℕ) → n ≡ length xs → Passed xs n
-  passed_none xs n e = let whole : take n xs ≡ xs = take_all n xs (omega arith) in (omega arith, simp whole (omega arith))
+-- the library's lemmas on every element, for the same fact by recursion on the list
+module _ {X : Type 0} (P : X → Type 0) where
+  weaker : (Q : X → Type 0) → ((x : X) → P x → Q x) → (xs : List X) → AllByRecursion P xs → AllByRecursion Q xs
+  weaker Q f xs h = recursion_from_All Q xs (All-weaker P Q f xs (All-from_recursion P xs h))
 
-  pub passed_more : (xs : List X) (n : ℕ) (x : X) → 0 < n → x ≡ get_or xs (n - 1) x → true ≡ p x → Passed xs n → Passed xs (n - 1)
-  passed_more xs n x some is passes (within, sums) =
-      (omega arith, omega (arith, suffix_len-take_yes p xs n x some within (sym (passes ∙ ap p is))))
+  inserted : (xs : List X) (n : ℕ) (x : X) → AllByRecursion P xs → P x → AllByRecursion P (insert xs n x)
+  inserted xs n x h here =
+      let all = All-from_recursion P xs h in
+      recursion_from_All P (insert xs n x) (All-append P (take n xs) (x ∷ drop n xs) (All-take P n xs all) (All-cons P x (drop n xs) here (All-drop P n xs all)))
 
-  pub passed_all : (xs : List X) (n : ℕ) (x : X) → 0 < n → x ≡ get_or xs (n - 1) x → false ≡ p x → Passed xs n → n ≡ length xs - suffix_len p xs
-  passed_all xs n x some is fails (within, sums) = omega (arith, suffix_len-take_no p xs n x some within (sym (fails ∙ ap p is)))
+module _ {D : Type 0} (dates : DateModel D) (date : D) where
+  -- where those in front are dated no later and those behind are later, that is the place
+  pub place_is : (xs : List (Entry D)) (n : ℕ) → n ≤ length xs → IsPartitionPoint (λ y. not (later dates date y) ≡ true) (λ y. not (later dates date y) ≡ false) xs n → n ≡ place dates date xs
+  place_is [] n within point = omega arith
+  place_is (x ∷ xs) n within (front, back) =
+      omega (arith, suffix_len_is (later dates date) (x ∷ xs) n x within (λ k from to. let fails = back k x from to in grind rules) (λ some. let passes = front (n - 1) x (omega arith) (omega arith) in grind rules))
 
-  leading_all : (xs : List X) → AllByRecursion (λ x. p x ≡ true) xs → prefix_len p xs ≡ length xs
-  leading_all [] all = refl
-  leading_all (x ∷ xs) (passes, all) = let more = leading_all xs all in grind arith
-
-  leading_stop : (xs : List X) (x : X) → p x ≡ false → prefix_len p (xs ++ x ∷ []) ≡ prefix_len p xs
-  leading_stop [] x fails = grind arith
-  leading_stop (y ∷ ys) x fails = let more = leading_stop ys x fails in grind arith
-
-  all_reverse : (P : X → Type 0) (xs : List X) → AllByRecursion P xs → AllByRecursion P (reverse xs)
-  all_reverse P [] all = tt
-  all_reverse P (x ∷ xs) (here, all) =
-      subst (AllByRecursion P) (sym (reverse-cons x xs)) (All-push P (reverse xs) x (all_reverse P xs all) here)
-
-  ending_all : (xs : List X) → AllByRecursion (λ x. p x ≡ true) xs → suffix_len p xs ≡ length xs
-  ending_all xs all = leading_all (reverse xs) (all_reverse (λ x. p x ≡ true) xs all) ∙ length-reverse xs
-
-  ending_behind : (x : X) (xs : List X) → p x ≡ false → suffix_len p (x ∷ xs) ≡ suffix_len p xs
-  ending_behind x xs fails = ap (prefix_len p) (reverse-cons x xs) ∙ leading_stop (reverse xs) x fails
-
-all_inserted : {X : Type 0} (P : X → Type 0) (xs : List X) (n : ℕ) (x : X) → AllByRecursion P xs → P x → AllByRecursion P (insert xs n x)
-all_inserted P xs n x all here = All-append P (take n xs) (x ∷ drop n xs) (All-take P n xs all) (here, All-drop P n xs all)
+  place_behind : (x : Entry D) (xs : List (Entry D)) → later dates date x ≡ false → place dates date (x ∷ xs) ≡ suc (place dates date xs)
+  place_behind x xs fails = omega (arith, suffix_behind (later dates date) x xs fails, suffix_len-le-length (later dates date) xs)
 
 module _ {D : Type 0} (dates : DateModel D) (lawful : Lawful dates) where
+  -- what stands behind an entry that is later is later too
   later_behind : (date : D) (x y : Entry D) → later dates date x ≡ true → Before dates x y → later dates date y ≡ true
   later_behind date x y h (inl earlier) = lawful.transitive date x.date y.date h earlier
   later_behind date x y h (inr same) = subst (λ d. dates.earlier date d ≡ true) same.0 h
 
+  -- an entry that is dated no later than the new one is before it
   not_later : (x new : Entry D) → later dates new.date x ≡ false → x.number < new.number → Before dates x new
   not_later x new fails less = go (dates.earlier x.date new.date) refl
     where
@@ -65,32 +55,68 @@ module _ {D : Type 0} (dates : DateModel D) (lawful : Lawful dates) where
       go true e = inl e
       go false e = inr (lawful.equal x.date new.date e fails, less)
 
+  all_later : (date : D) (x : Entry D) (xs : List (Entry D)) → later dates date x ≡ true → Sorted dates (x ∷ xs) → AllByRecursion (λ y. later dates date y ≡ true) (x ∷ xs)
+  all_later date x xs passes sorted =
+      (passes, weaker (Before dates x) _ (λ y. later_behind date x y passes) xs sorted.0)
+
+  -- what stands in front of an entry that is dated no later is dated no later too
+  not_later_before : (date : D) (x y : Entry D) → Before dates x y → not (later dates date y) ≡ true → not (later dates date x) ≡ true
+  not_later_before date x y before holds = go (later dates date x) refl
+    where
+      go : (b : Bool) → later dates date x ≡ b → not (later dates date x) ≡ true
+      go true e = ap not (e ∙ sym (later_behind date x y e before)) ∙ holds
+      go false e = ap not e
+
+  -- no entry that is later stands in front of one that is not
+  pub parted : (date : D) (xs : List (Entry D)) → Sorted dates xs → IsPartitionedBy (λ y. not (later dates date y)) xs
+  parted date [] sorted i j d order within holds = absurd (omega arith)
+  parted date (x ∷ xs) sorted zero zero d order within holds = holds
+  parted date (x ∷ xs) sorted zero (suc j) d order within holds =
+      not_later_before date x (get_or xs j d) (All-from_recursion (Before dates x) xs sorted.0 j d (omega arith)) holds
+  parted date (x ∷ xs) sorted (suc i) zero d order within holds = absurd (omega arith)
+  parted date (x ∷ xs) sorted (suc i) (suc j) d order within holds = parted date xs sorted.1 i j d (omega arith) (omega arith) holds
+
+  place_first : (date : D) (x : Entry D) (xs : List (Entry D)) → later dates date x ≡ true → Sorted dates (x ∷ xs) → place dates date (x ∷ xs) ≡ 0
+  place_first date x xs passes sorted =
+      let all = All-from_recursion (λ y. later dates date y ≡ true) (x ∷ xs) (all_later date x xs passes sorted) in
+      omega (arith, suffix_len_is (later dates date) (x ∷ xs) 0 x (omega arith) (λ k from to. all k x to) (λ some. absurd (omega arith)))
+
+  -- the entries dated no later are those in front of the place
+  pub up_to_place : (date : D) (xs : List (Entry D)) → Sorted dates xs → take (place dates date xs) xs ≡ up_to dates date xs
+  up_to_place date [] sorted = refl
+  up_to_place date (x ∷ xs) sorted = go (up_to_place date xs sorted.1) (later dates date x) refl
+    where
+      none : (ys : List (Entry D)) → AllByRecursion (λ y. later dates date y ≡ true) ys → up_to dates date ys ≡ []
+      none [] all = refl
+      none (y ∷ ys) all = rw all.0 (none ys all.1)
+
+      go : take (place dates date xs) xs ≡ up_to dates date xs → (b : Bool) → later dates date x ≡ b → take (place dates date (x ∷ xs)) (x ∷ xs) ≡ up_to dates date (x ∷ xs)
+      go rest true passes = rw (place_first date x xs passes sorted) (sym (none (x ∷ xs) (all_later date x xs passes sorted)))
+      go rest false fails = rw (place_behind dates date x xs fails, fails) (ap (λ ys. x ∷ ys) rest)
+
   sorted_placed : (new : Entry D) (xs : List (Entry D)) → AllByRecursion (λ x. x.number < new.number) xs → Sorted dates xs → Sorted dates (placed dates new xs)
   sorted_placed new [] less sorted = (tt, tt)
   sorted_placed new (x ∷ xs) (less, lesser) (first, rest) = go (sorted_placed new xs lesser rest) (later dates new.date x) refl
     where
       go : Sorted dates (placed dates new xs) → (b : Bool) → later dates new.date x ≡ b → Sorted dates (placed dates new (x ∷ xs))
       go more true passes =
-          let all : AllByRecursion (λ y. later dates new.date y ≡ true) (x ∷ xs) = (passes, All-weaker (Before dates x) _ (λ y. later_behind new.date x y passes) xs first) in
-          let at : place dates new.date (x ∷ xs) ≡ 0 = omega (arith, ending_all (later dates new.date) (x ∷ xs) all) in
-          subst (λ n. Sorted dates (insert (x ∷ xs) n new)) (sym at) (All-weaker _ (Before dates new) (λ y h. inl h) (x ∷ xs) all, (first, rest))
+          rw (place_first new.date x xs passes (first, rest))
+          (weaker _ (Before dates new) (λ y h. inl h) (x ∷ xs) (all_later new.date x xs passes (first, rest)), (first, rest))
       go more false fails =
-          let at : place dates new.date (x ∷ xs) ≡ suc (place dates new.date xs) =
-          omega (arith, ending_behind (later dates new.date) x xs fails, suffix_len-le-length (later dates new.date) xs) in
-          subst (λ n. Sorted dates (insert (x ∷ xs) n new)) (sym at)
-          (all_inserted (Before dates x) xs _ new first (not_later x new fails less), more)
+          rw (place_behind dates new.date x xs fails)
+          (inserted (Before dates x) xs _ new first (not_later x new fails less), more)
 
-  ordered_placed : (xs : List (Entry D)) (date : D) (operation : Operation) → InBookOrder dates xs → InBookOrder dates (placed dates (coming xs date operation) xs)
+  pub ordered_placed : (xs : List (Entry D)) (date : D) (operation : Operation) → InBookOrder dates xs → InBookOrder dates (placed dates (coming xs date operation) xs)
   ordered_placed xs date operation h =
       let new = coming xs date operation in
       let n = place dates date xs in
       let more : length (insert xs n new) ≡ length xs + 1 = length-insert xs n new (omega arith) in
       record {
-        sorted = sorted_placed new xs (All-weaker _ (λ x. x.number < length xs + 1) (λ x k. omega (arith, k.1)) xs h.numbered) h.sorted;
+        sorted = sorted_placed new xs (weaker _ (λ x. x.number < length xs + 1) (λ x k. omega (arith, k.1)) xs h.numbered) h.sorted;
         numbered =
             rw more
-            (all_inserted (λ x. (1 ≤ x.number) × (x.number ≤ length xs + 1)) xs n new
-            (All-weaker _ (λ x. (1 ≤ x.number) × (x.number ≤ length xs + 1)) (λ x k. (k.0, omega (arith, k.1))) xs h.numbered)
+            (inserted (λ x. (1 ≤ x.number) × (x.number ≤ length xs + 1)) xs n new
+            (weaker _ (λ x. (1 ≤ x.number) × (x.number ≤ length xs + 1)) (λ x k. (k.0, omega (arith, k.1))) xs h.numbered)
             (omega arith, omega arith));
       }
 

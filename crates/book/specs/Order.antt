@@ -1,12 +1,8 @@
 -- Book order, and where a new entry is placed.
-use Rattle.std.specs.Prelude.{◌≡◌, ℕ, ◌-◌, ◌<◌, ◌≤◌, Bool, true, not, ◌⊎◌, List, [], ◌∷◌, length, vec_items, filter}
+use Rattle.std.specs.Prelude.{◌≡◌, ℕ, ◌-◌, ◌<◌, ◌≤◌, Bool, true, not, ◌⊎◌, List, [], ◌∷◌, length, filter}
 use Rattle.std.specs.List.{suffix_len, insert, AllByRecursion}
 use Rattle.dates.specs.Model.{DateModel}
-use Rattle.book.specs.declared.entries.Entries.{Entries}
 use Rattle.book.specs.declared.entries.Entry.{Entry}
-
-abbrev pub listed : {D : Type 0} → Entries D → List (Entry D)
-listed book = vec_items book.entries
 
 module _ {D : Type 0} (dates : DateModel D) where
   -- whether an entry is dated later than a date

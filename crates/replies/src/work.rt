@@ -1,6 +1,6 @@
 // Works off the calls of a script on a new book.
 ghost use Rattle.std.specs.Prelude.{◌≡◌, [], IfOk};
-ghost use Rattle.book.specs.Order.{InBookOrder, listed};
+ghost use Rattle.book.specs.Order.{InBookOrder};
 ghost use Rattle.replies.specs.Replies.{Replied, after_lines, replies, totals};
 
 use crate::{Reply, Totals};
@@ -16,7 +16,7 @@ fn reply_to<D: Date, M: Machine>(
     heap: Global,
     line: &Line<D>,
 ) -> Result<Reply, AllocError>
-    ensures { IfOk result (λ given. Replied D.Date.model M.Machine.model (listed entries.old) line.now given (listed entries.new)) }
+    ensures { IfOk result (λ given. Replied D.Date.model M.Machine.model entries.old line.now given entries.new) }
 {
     let answer = match &line.call {
         Ok(call) => entries.answer::<M>(heap, call)?,

@@ -1,19 +1,19 @@
--- An entry that is accepted is placed, and keeps book order.
-use Rattle.std.proofs.Common.{◌≡◌, vec_items, sym, subst, rules}
-use Rattle.book.specs.Answers.{after}
-use Rattle.book.specs.Order.{InBookOrder}
-use Rattle.book.specs.declared.call.Call.TheVariants.{Enter}
-use Rattle.book.proofs.Placing.{ordered_after}
+-- An entry that is accepted keeps book order.
+use Rattle.std.proofs.Common.{◌≡◌, rules, sym, subst}
+use Rattle.book.specs.Answers.{coming}
+use Rattle.book.specs.Order.{InBookOrder, placed}
+use Rattle.book.proofs.Placing.{ordered_placed}
 use Rattle.book.proofs.entries.Entries.enter.Goals as goal
 
-pub returns : goal.returns
-returns g c =
+ordered : (g : _) (c : goal.In_ok-insert g) → InBookOrder g.D.Date.model c.insert.new.self.items
+ordered g c =
     let dates = g.D.Date.model in
-    let m = g.M.Machine.model in
-    let old = vec_items c.args.self.now.entries in
-    let call = Enter c.args.date c.args.operation in
-    let becomes : vec_items c.insert.new.self ≡ after dates m old call = search rules in
-    record {
-      done = search rules;
-      ordered = λ h. subst (InBookOrder dates) (sym becomes) (ordered_after dates g.met.D.Date.lawful m old call h);
-    }
+    let old = c.self.inside.entries.items in
+    let is : c.insert.new.self.items ≡ placed dates (coming old c.args.date c.args.operation) old = search rules in
+    subst (InBookOrder dates) (sym is) (ordered_placed dates g.met.D.Date.lawful old c.args.date c.args.operation c.self.invariant)
+
+pub invariant_of-self-2 : goal.invariant_of-self-2
+invariant_of-self-2 = ordered
+
+pub returns-clause-ordered : goal.returns-clause-ordered
+returns-clause-ordered g c = λ _. ordered g c

@@ -1,15 +1,15 @@
--- The place is the one in front of the entries at the end that are later.
-use Rattle.std.proofs.Common.{arith}
-use Rattle.book.proofs.Placing.{passed_none, passed_more, passed_all}
+-- The entries divide into those dated no later and those that are later, and so the place is found by halving.
+use Rattle.std.proofs.Common.{not, rules}
+use Rattle.std.proofs.lemmas.List.Sorted.{IsPartitionPoint-from_clause}
+use Rattle.book.specs.Order.{later, Sorted}
+use Rattle.book.proofs.Placing.{parted, place_is}
 use Rattle.book.proofs.entries.Entries.place.Goals as goal
 
-pub loop-place-init : goal.loop-place-init
-loop-place-init g c = passed_none _ _ _ (omega arith)
-
-pub loop-place-preserved : goal.loop-place-preserved
-loop-place-preserved g c =
-    passed_more _ _ _ _ c.loop-place-test.true c.index.ensures c.if-is_later_than.ensures c.loop-place.invariant
-
-pub returns-else-is_later_than : goal.returns-else-is_later_than
-returns-else-is_later_than g c =
-    passed_all _ _ _ _ c.loop-place-test.true c.index.ensures c.if-is_later_than.ensures c.loop-place.invariant
+pub returns : goal.returns
+returns g c =
+    let dates = g.D.Date.model in
+    let date = c.args.date.now in
+    let ordered : Sorted dates c.deref.result.now = rw c.deref.ensures.value c.self.invariant.sorted in
+    let divides = parted dates g.met.D.Date.lawful date _ ordered in
+    let point = IsPartitionPoint-from_clause (λ entry. not (later dates date entry)) _ _ c.partition_point.ensures.partitioned divides (λ a r q k. search rules) in
+    rw (← c.self.view_is, ← c.deref.ensures.value) (place_is dates date _ _ c.partition_point.ensures.bound point)
