@@ -31,7 +31,7 @@ impl From<MachineFault> for Fault {
     ghost from_gives = { λ fault r. r ≡ IsRefused (Machine fault) };
 
     fn from(fault: MachineFault) -> Fault {
-        Fault::Refused(Refusal::Machine(fault))
+        Fault::Refused(fault.into())
     }
 }
 

@@ -1,6 +1,7 @@
 // Why a call is refused.
 ghost use Rattle.std.specs.Prelude.{◌≡◌, Some};
 ghost use Rattle.book.specs.Refusals.{number, giver, words};
+ghost use Rattle.book.specs.declared.refusal.Refusal.TheVariants.{Date, Machine};
 
 use dates::NoSuchDate;
 use machines::MachineFault;
@@ -31,6 +32,22 @@ impl Refusal {
             Refusal::Date(fault) => fault.giver(),
             Refusal::Machine(fault) => fault.giver(),
         }
+    }
+}
+
+impl From<NoSuchDate> for Refusal {
+    ghost from_gives = { λ fault r. r ≡ Date fault };
+
+    fn from(fault: NoSuchDate) -> Refusal {
+        Refusal::Date(fault)
+    }
+}
+
+impl From<MachineFault> for Refusal {
+    ghost from_gives = { λ fault r. r ≡ Machine fault };
+
+    fn from(fault: MachineFault) -> Refusal {
+        Refusal::Machine(fault)
     }
 }
 

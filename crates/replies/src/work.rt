@@ -20,7 +20,7 @@ fn reply_to<D: Date, M: Machine>(
 {
     let answer = match &line.call {
         Ok(call) => entries.answer::<M>(heap, call)?,
-        Err(fault) => Err(Refusal::Date(*fault)),
+        Err(fault) => Err(Refusal::from(*fault)),
     };
     Ok(Reply {
         line: line.number,
