@@ -20,8 +20,8 @@ pub struct Entry<D> {
     pub operation: Operation,
 }
 
-// The entries of a book. A clause sees them as a list, and the list is always in book order: by date, and those of one
-// date by number.
+// The entries of a book in book order: by date, and those of one date by number. A caller sees the list alone, so the
+// clauses `ordered` say of it what `invariant` does.
 #[derive(Drop)]
 pub struct Entries<D: Date> {
     entries: Vec<Entry<D>>,
