@@ -1,14 +1,15 @@
 -- The place of a new entry divides the entries into those dated no later and those that are later, and keeps book order.
-use Rattle.std.proofs.Common.{◌≡◌, ℕ, zero, suc, ◌+◌, ◌-◌, ◌<◌, ◌≤◌, Bool, true, false, not, List, [], ◌∷◌, reverse, length, get_or, take, drop, sym, refl, ap, ◌∙◌, subst, inl, inr, arith, rules}
+use Rattle.std.proofs.Common.{◌≡◌, ℕ, zero, suc, ◌+◌, ◌-◌, ◌<◌, ◌≤◌, Bool, true, false, not, List, [], ◌∷◌, reverse, length, get_or, take, drop, sym, refl, ap, subst, inl, inr, arith, rules}
 use mathlib.Core.List.{reverse-cons}
 use Rattle.std.specs.List.{suffix_len, insert, AllByRecursion}
 use Rattle.std.specs.List.Sorted.{IsPartitionPoint, IsPartitionedBy}
+use Rattle.std.specs.Ordering.{is_le}
 use Rattle.std.proofs.lemmas.Bool.{cond_both}
 use Rattle.std.proofs.lemmas.List.Edits.{length-insert}
 use Rattle.std.proofs.lemmas.List.Elements.{All-append, All-cons, All-drop, All-from_recursion, All-take, All-weaker, recursion_from_All}
 use Rattle.std.proofs.lemmas.List.Folds.{prefix_len-append}
 use Rattle.std.proofs.lemmas.List.Sums.{suffix_len-le-length, suffix_len_is}
-use Rattle.dates.specs.Model.{DateModel, Lawful}
+use Rattle.dates.specs.Model.{DateModel, Lawful, compared}
 use Rattle.machines.specs.Model.{MachineModel}
 use Rattle.machines.specs.declared.operation.Operation.{Operation}
 use Rattle.book.specs.Answers.{coming, after}
@@ -55,17 +56,19 @@ module _ {D : Type 0} (dates : DateModel D) (lawful : Lawful dates) where
       go true e = inl e
       go false e = inr (lawful.equal x.date new.date e fails, less)
 
+  -- what comparing a date with another answers, as a test of which entries are dated no later
+  pub no_later : (date : D) (x : Entry D) → is_le (compared dates x.date date) ≡ not (later dates date x)
+  no_later date x = grind (rules, lawful.one_way x.date date)
+
   all_later : (date : D) (x : Entry D) (xs : List (Entry D)) → later dates date x ≡ true → Sorted dates (x ∷ xs) → AllByRecursion (λ y. later dates date y ≡ true) (x ∷ xs)
   all_later date x xs passes sorted =
       (passes, weaker (Before dates x) _ (λ y. later_behind date x y passes) xs sorted.0)
 
   -- what stands in front of an entry that is dated no later is dated no later too
   not_later_before : (date : D) (x y : Entry D) → Before dates x y → not (later dates date y) ≡ true → not (later dates date x) ≡ true
-  not_later_before date x y before holds = go (later dates date x) refl
-    where
-      go : (b : Bool) → later dates date x ≡ b → not (later dates date x) ≡ true
-      go true e = ap not (e ∙ sym (later_behind date x y e before)) ∙ holds
-      go false e = ap not e
+  not_later_before date x y before holds =
+      let behind : later dates date x ≡ true → later dates date y ≡ true = λ passes. later_behind date x y passes before in
+      grind rules
 
   -- no entry that is later stands in front of one that is not
   pub parted : (date : D) (xs : List (Entry D)) → Sorted dates xs → IsPartitionedBy (λ y. not (later dates date y)) xs

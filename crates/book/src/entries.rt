@@ -2,7 +2,7 @@
 ghost use Rattle.std.specs.Prelude.{◌≡◌, []};
 ghost use Rattle.std.specs.Result.{result_ok};
 ghost use Rattle.book.specs.Answers.{Done, answer_in, read};
-ghost use Rattle.book.specs.Order.{later, up_to, place, InBookOrder, KeepsOrder};
+ghost use Rattle.book.specs.Order.{up_to, place, InBookOrder, KeepsOrder};
 ghost use Rattle.book.specs.declared.call.Accepted.TheVariants.{Entered};
 ghost use Rattle.book.specs.declared.call.Call.TheVariants.{Enter, Ask};
 
@@ -37,14 +37,6 @@ impl<D: Date> Model for Entries<D> {
     ghost view = { λ book. book.entries.items };
 
     ghost invariant = { λ book. InBookOrder D.Date.model book.entries.items };
-}
-
-impl<D: Date> Entry<D> {
-    fn is_later_than(&self, date: &D) -> bool
-        ensures { result ≡ later D.model date.now self.now }
-    {
-        date.compare(&self.date).is_lt()
-    }
 }
 
 impl<D: Date> Entries<D> {
@@ -117,8 +109,7 @@ impl<D: Date> Entries<D> {
     fn place(&self, date: &D) -> usize
         ensures { result ≡ place D.model date.now self.now }
     {
-        self.entries
-            .partition_point(|entry| !entry.is_later_than(date))
+        self.entries.partition_point(|entry| entry.date <= *date)
     }
 
     // The entries dated no later, which stand at the front.
