@@ -1,4 +1,3 @@
-mod Lines
 pub mod Listed
-mod Parsed
 mod Words
+mod Lines

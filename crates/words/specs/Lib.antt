@@ -1,3 +1,4 @@
+pub mod NumberLaws
 pub mod Numbers
 pub mod Operations
 pub mod Reasons

@@ -1,5 +1,5 @@
 -- The operations and questions that words name.
-use Rattle.std.specs.Prelude.{ℕ, cond, List, [], ◌∷◌, Some, None, Ok, Err, codes, Option, Result}
+use Rattle.std.specs.Prelude.{ℕ, ℤ, cond, List, [], ◌∷◌, Some, None, Ok, Err, codes, Option, Result}
 use Rattle.std.specs.Str.{bytes_eq}
 use Rattle.machines.specs.declared.operation.Operation.{Operation}
 use Rattle.machines.specs.declared.operation.Question.{Question}
@@ -11,6 +11,11 @@ use Rattle.words.specs.declared.reason.Reason.TheVariants.{NotSigned, NotUnsigne
 abbrev pub with : {A B : Type 0} → Option A → Reason → (A → Result B Reason) → Result B Reason
 with None reason next = Err reason
 with (Some x) reason next = next x
+
+-- the three numbers of a raw form: code and place, and an amount or an index
+abbrev pub raw_numbers : List ℕ → List ℕ → List ℕ → Result (ℕ × ℕ × ℤ) Reason
+raw_numbers code place last =
+    with (unsigned 16 code) NotUnsigned (λ c. with (unsigned 16 place) NotUnsigned (λ p. with (signed 31 last) NotSigned (λ l. Ok (c, p, l))))
 
 -- code, place and amount, and code, place and index
 abbrev pub raw_operation : List ℕ → List ℕ → List ℕ → Result Operation Reason

@@ -6,7 +6,7 @@ pub mod operation;
 pub mod reason;
 pub mod text;
 
-pub use number::{signed_32, unsigned_8, unsigned_16};
+pub use number::{Number, read_number};
 pub use operation::{read_operation, read_question};
 pub use reason::Reason;
 pub use text::{lines_of, words_of};

@@ -2,31 +2,39 @@
 //
 // Each has a form of its own for what an editor writes, which stands for the raw form of three numbers.
 ghost use Rattle.std.specs.Prelude.{◌≡◌};
-ghost use Rattle.words.specs.Operations.{operation, question, raw_operation, raw_question};
+ghost use Rattle.words.specs.Operations.{operation, question, raw_numbers, raw_operation, raw_question};
 ghost use Rattle.words.specs.Text.{spelled};
 
-use crate::number::{signed_32, unsigned_16};
+use crate::number::read_number;
 use crate::reason::Reason;
 use machines::{Operation, Question};
+
+// The three numbers of a raw form.
+fn raw_numbers(code: &str, place: &str, last: &str) -> Result<(u16, u16, i32), Reason>
+    ensures { result ≡ raw_numbers code.now place.now last.now }
+{
+    let code = read_number(code).ok_or(Reason::NotUnsigned)?;
+    let place = read_number(place).ok_or(Reason::NotUnsigned)?;
+    let last = read_number(last).ok_or(Reason::NotSigned)?;
+    Ok((code, place, last))
+}
 
 fn operation_of(code: &str, place: &str, amount: &str) -> Result<Operation, Reason>
     ensures { result ≡ raw_operation code.now place.now amount.now }
 {
+    let (code, place, amount) = raw_numbers(code, place, amount)?;
     Ok(Operation {
-        code: unsigned_16(code).ok_or(Reason::NotUnsigned)?,
-        place: unsigned_16(place).ok_or(Reason::NotUnsigned)?,
-        amount: signed_32(amount).ok_or(Reason::NotSigned)?,
+        code,
+        place,
+        amount,
     })
 }
 
 fn question_of(code: &str, place: &str, index: &str) -> Result<Question, Reason>
     ensures { result ≡ raw_question code.now place.now index.now }
 {
-    Ok(Question {
-        code: unsigned_16(code).ok_or(Reason::NotUnsigned)?,
-        place: unsigned_16(place).ok_or(Reason::NotUnsigned)?,
-        index: signed_32(index).ok_or(Reason::NotSigned)?,
-    })
+    let (code, place, index) = raw_numbers(code, place, index)?;
+    Ok(Question { code, place, index })
 }
 
 // The operation that an entering names.

@@ -37,7 +37,6 @@ impl fmt::Display for Reason {
     ghost output = { λ reason. Some (explained reason) };
 
     fn fmt<W: fmt::Write>(&self, f: &mut fmt::Formatter<W>) -> fmt::Result {
-        let text = self.text();
-        write!(f, "{text}")
+        f.write_str(self.text())
     }
 }

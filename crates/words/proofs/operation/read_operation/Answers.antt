@@ -2,26 +2,8 @@ use Rattle.std.proofs.Common.{◌≡◌, ◌≤◌, length, Err, refl, rules}
 use Rattle.std.proofs.lemmas.Slice.Eq.{bytes_eq-Decides}
 use Rattle.words.specs.Operations.{operation}
 use Rattle.words.specs.declared.reason.Reason.TheVariants.{UnknownOperation}
-use Rattle.words.proofs.Listed.{none, one, two, three, four, five_up}
+use Rattle.words.proofs.Listed.{one, two, three, four, five_up}
 use Rattle.words.proofs.operation.read_operation.Goals as goal
-
-pub returns-in-draw : goal.returns-in-draw
-returns-in-draw c = let long : length c.args.words.now ≡ 1 = search rules in rw (one _ long) (search rules)
-
-pub returns-in-order : goal.returns-in-order
-returns-in-order c = let long : length c.args.words.now ≡ 2 = search rules in rw (two _ long) (search rules)
-
-pub returns-in-change : goal.returns-in-change
-returns-in-change c = let long : length c.args.words.now ≡ 3 = search rules in rw (three _ long) (search rules)
-
-pub returns-in-set : goal.returns-in-set
-returns-in-set c = let long : length c.args.words.now ≡ 3 = search rules in rw (three _ long) (search (rules, bytes_eq-Decides))
-
-pub returns-in-op : goal.returns-in-op
-returns-in-op c = let long : length c.args.words.now ≡ 4 = search rules in rw (four _ long) (search rules)
-
-pub returns-in_default : goal.returns-in_default
-returns-in_default c = let long : length c.args.words.now ≡ 0 = search rules in rw (none _ long) (search rules)
 
 pub returns-in_default-2 : goal.returns-in_default-2
 returns-in_default-2 c = let long : length c.args.words.now ≡ 1 = search rules in rw (one _ long) (search (rules, bytes_eq-Decides))

@@ -1,27 +1,7 @@
-use Rattle.std.proofs.Common.{◌≡◌, ◌≤◌, length, Err, refl, rules}
+use Rattle.std.proofs.Common.{◌≡◌, length, rules}
 use Rattle.std.proofs.lemmas.Slice.Eq.{bytes_eq-Decides}
-use Rattle.words.specs.Operations.{question}
-use Rattle.words.specs.declared.reason.Reason.TheVariants.{UnknownQuestion}
-use Rattle.words.proofs.Listed.{none, one, two, three, four, five_up}
+use Rattle.words.proofs.Listed.{one, two, four}
 use Rattle.words.proofs.operation.read_question.Goals as goal
-
-pub returns-in-waiting : goal.returns-in-waiting
-returns-in-waiting c = let long : length c.args.words.now ≡ 1 = search rules in rw (one _ long) (search rules)
-
-pub returns-in-count : goal.returns-in-count
-returns-in-count c = let long : length c.args.words.now ≡ 2 = search rules in rw (two _ long) (search rules)
-
-pub returns-in-job : goal.returns-in-job
-returns-in-job c = let long : length c.args.words.now ≡ 2 = search rules in rw (two _ long) (search (rules, bytes_eq-Decides))
-
-pub returns-in-status : goal.returns-in-status
-returns-in-status c = let long : length c.args.words.now ≡ 2 = search rules in rw (two _ long) (search (rules, bytes_eq-Decides))
-
-pub returns-in-question : goal.returns-in-question
-returns-in-question c = let long : length c.args.words.now ≡ 4 = search rules in rw (four _ long) (search rules)
-
-pub returns-in_default : goal.returns-in_default
-returns-in_default c = let long : length c.args.words.now ≡ 0 = search rules in rw (none _ long) (search rules)
 
 pub returns-in_default-2 : goal.returns-in_default-2
 returns-in_default-2 c = let long : length c.args.words.now ≡ 1 = search rules in rw (one _ long) (search (rules, bytes_eq-Decides))
@@ -29,11 +9,5 @@ returns-in_default-2 c = let long : length c.args.words.now ≡ 1 = search rules
 pub returns-in_default-3 : goal.returns-in_default-3
 returns-in_default-3 c = let long : length c.args.words.now ≡ 2 = search rules in rw (two _ long) (search (rules, bytes_eq-Decides))
 
-pub returns-in_default-4 : goal.returns-in_default-4
-returns-in_default-4 c = let long : length c.args.words.now ≡ 3 = search rules in rw (three _ long) (search rules)
-
 pub returns-in_default-5 : goal.returns-in_default-5
 returns-in_default-5 c = let long : length c.args.words.now ≡ 4 = search rules in rw (four _ long) (search (rules, bytes_eq-Decides))
-
-pub returns-in_default-6 : goal.returns-in_default-6
-returns-in_default-6 c = let long : 5 ≤ length c.args.words.now = search rules in five_up (λ ws. Err UnknownQuestion ≡ question ws) (λ a b c d e more. refl) _ long
