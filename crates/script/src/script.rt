@@ -1,7 +1,7 @@
 // Reads a whole script, before any of its calls is made.
 ghost use Rattle.std.specs.Prelude.{◌≡◌, drop, Some, vec_items};
-ghost use Rattle.script.specs.Scripts.{Agrees, at_line, calls, fault_text, head, kind, line_call, listed, script, setting};
-ghost use Rattle.words.specs.Text.{spelled, words};
+ghost use Rattle.script.specs.Scripts.{Agrees, calls, fault_text, head, kind, line_call, listed, script, setting};
+ghost use Rattle.words.specs.Text.{spelled};
 ghost use Rattle.script.specs.declared.line.Kind.TheVariants.{Days};
 ghost use Rattle.script.specs.declared.line.ScriptFault.TheVariants.{NoMemory};
 
@@ -61,24 +61,18 @@ fn read_setting(words: &[&str]) -> Result<Setting, Reason>
     }
 }
 
-// What a line is before the first call, by its number.
-fn setting_at(heap: Global, line: &str, number: usize) -> Result<Setting, ScriptFault>
-    ensures { Agrees (λ x. x) result (at_line number (setting (words line.now))) }
-{
-    let words = words_of(heap, line)?;
-    match read_setting(words.as_slice()) {
-        Ok(setting) => Ok(setting),
-        Err(reason) => Err(ScriptFault::BadLine(number, reason)),
-    }
-}
-
 // The kind of date, and how many lines stand before the first call.
 fn read_head(heap: Global, lines: &[&str]) -> Result<(Kind, usize), ScriptFault>
     ensures { Agrees (λ x. x) result (head Days 0 (spelled lines.now)) }
 {
     let mut kind = Kind::Days;
     for (i, line) in lines.iter().enumerate() {
-        match setting_at(heap, line, i + 1)? {
+        let number = i + 1;
+        let words = words_of(heap, line)?;
+        let setting = read_setting(words.as_slice()).map_err(|reason| ScriptFault::BadLine(
+            number, reason,
+        ))?;
+        match setting {
             Setting::Blank => {}
             Setting::Named(named) => kind = named,
             Setting::Begun => return Ok((kind, i)),
@@ -91,24 +85,9 @@ fn read_head(heap: Global, lines: &[&str]) -> Result<(Kind, usize), ScriptFault>
 fn read_line<D: WrittenDate>(words: &[&str]) -> Result<Option<Result<Call<D>, NoSuchDate>>, Reason>
     ensures { result ≡ line_call D.written (spelled words.now) }
 {
-    if words.is_empty() {
-        return Ok(None);
-    }
-    Ok(Some(read_call(words)?))
-}
-
-// The call of a line, by its number.
-fn call_at<D: WrittenDate>(
-    heap: Global,
-    line: &str,
-    number: usize,
-) -> Result<Option<Result<Call<D>, NoSuchDate>>, ScriptFault>
-    ensures { Agrees (λ x. x) result (at_line number (line_call D.written (words line.now))) }
-{
-    let words = words_of(heap, line)?;
-    match read_line(words.as_slice()) {
-        Ok(call) => Ok(call),
-        Err(reason) => Err(ScriptFault::BadLine(number, reason)),
+    match words {
+        [] => Ok(None),
+        words => read_call(words).map(Some),
     }
 }
 
@@ -121,9 +100,13 @@ fn read_calls<D: WrittenDate>(
     ensures { Agrees vec_items result (calls D.written from (drop from (spelled lines.now))) }
 {
     let mut found = Vec::new(heap);
-    for i in from..lines.len() {
+    for (i, line) in lines.iter().enumerate().skip(from) {
         let number = i + 1;
-        if let Some(call) = call_at(heap, lines[i], number)? {
+        let words = words_of(heap, line)?;
+        let call = read_line(words.as_slice()).map_err(|reason| ScriptFault::BadLine(
+            number, reason,
+        ))?;
+        if let Some(call) = call {
             found.push(Line { number, call })?;
         }
     }

@@ -4,7 +4,7 @@ ghost use Rattle.dates.specs.declared.fault.NoSuchDate.{NoSuchDate};
 ghost use Rattle.script.specs.Written.{day_written, parts, survey_written};
 
 use dates::{Date, DayNumber, NoSuchDate, SurveyDate};
-use words::{signed_32, unsigned_8, unsigned_16};
+use words::read_number;
 
 pub trait WrittenDate: Date {
     // What a word says: none where it is not written as a date of this kind, and else the date, or that there is no such.
@@ -18,7 +18,7 @@ impl WrittenDate for DayNumber {
     ghost written = { day_written };
 
     fn read(word: &str) -> Option<Result<DayNumber, NoSuchDate>> {
-        Some(Ok(DayNumber::new(signed_32(word)?)))
+        Some(Ok(DayNumber::new(read_number(word)?)))
     }
 }
 
@@ -42,6 +42,6 @@ impl WrittenDate for SurveyDate {
 
     fn read(word: &str) -> Option<Result<SurveyDate, NoSuchDate>> {
         let (year, month, day) = parts_of(word);
-        Some(SurveyDate::new(unsigned_16(year)?, unsigned_8(month)?, unsigned_8(day)?))
+        Some(SurveyDate::new(read_number(year)?, read_number(month)?, read_number(day)?))
     }
 }

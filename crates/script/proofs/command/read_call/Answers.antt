@@ -4,12 +4,6 @@ use Rattle.words.proofs.Listed.{none, one, two_up}
 use Rattle.script.proofs.command.read_call.Goals as goal
 use Rattle.script.proofs.command.read_call.Goals.{then-words-lt2+in-dates-1, else-words-lt2+in-dates-1, in_default-via-then-words-lt1, in_default-via-else-words-lt1+then-words-lt2+in_default, in_default-via-else-words-lt1+else-words-lt2+in_default}
 
-pub returns-in-enter : goal.returns-in-enter
-returns-in-enter g c = let long : 2 ≤ length c.args.words.now = search rules in rw (two_up _ long) (search rules)
-
-pub returns-in-ask : goal.returns-in-ask
-returns-in-ask g c = let long : 2 ≤ length c.args.words.now = search rules in rw (two_up _ long) (search (rules, bytes_eq-Decides))
-
 pub returns-in-dates : goal.returns-in-dates
 returns-in-dates g c =
     elim c.in-dates-1.branch [

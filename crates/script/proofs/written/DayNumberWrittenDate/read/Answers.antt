@@ -6,6 +6,6 @@ use Rattle.script.proofs.written.DayNumberWrittenDate.read.Goals as goal
 
 pub returns : goal.returns
 returns c =
-    let number = c.in_ok-signed_32.field-0 in
+    let number = c.in_ok-read_number.field-0 in
     let fits : SFits w32 number = search rules in
-    ap (λ day. Some (Ok day)) (c.new.ensures.whole ∙ ap numbered (to_z-of_z w32 number fits)) ∙ ap (option_map (λ n. Ok (numbered n))) c.in_ok-signed_32.ensures
+    ap (λ day. Some (Ok day)) (c.new.ensures.whole ∙ ap numbered (to_z-of_z w32 number fits)) ∙ ap (option_map (λ n. Ok (numbered n))) c.in_ok-read_number.ensures
