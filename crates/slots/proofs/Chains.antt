@@ -1,27 +1,21 @@
 -- What trees that are chained through slots keep as slots are written.
-use Rattle.std.proofs.Common.{◌≡◌, ℕ, ◌+◌, ◌<◌, ◌≤◌, max, List, ◌∷◌, ◌++◌, length, set, refl, ap, ◌∙◌, inl, inr, ⊎_elim, arith, length-set}
-use Rattle.std.proofs.lemmas.List.{get_or_past, get_or-set_same, get_or-set_other}
-use Rattle.std.proofs.lemmas.Bool.{cases_eq}
+use Rattle.std.proofs.Common.{◌≡◌, ℕ, ◌+◌, ◌<◌, max, List, ◌∷◌, ◌++◌, length, set, get_or, refl, ap, ◌∙◌, inl, inr, ⊎_elim, arith, length-set}
+use Rattle.std.proofs.lemmas.List.{get_or_past, get_or_read, get_or-set_same, get_or-set_other}
 use Rattle.avl.specs.Book.{In}
 use Rattle.avl.specs.Tree.{Tree, leaf, node, inorder, levels}
 use Rattle.avl.specs.Standing.{tree_count}
 use Rattle.avl.specs.Summary.{SummaryModel, tree_join}
 use Rattle.machines.specs.declared.operation.Operation.{Operation}
+use Rattle.slots.specs.declared.slot.Parts.{Parts}
 use Rattle.slots.specs.declared.slot.Slot.{Slot}
-use Rattle.slots.specs.Slots.{Entry, blank, slot, entry, entries, placement, Kept}
+use Rattle.slots.specs.Slots.{Entry, blank, slot, entry, entries, placement, parts, Kept}
 use Rattle.slots.specs.Chain.{Chained, Once, Formed, Tied, standing, own}
 use Rattle.slots.proofs.Measures.{count_local, join_local}
 use Rattle.slots.proofs.Lists.{in_left, in_right, in_either, once_right, once_apart}
 
-pub slot_past : {S : Type 0} (model : SummaryModel S) (slots : List (Slot S)) (link : ℕ) → length slots ≤ link → slot model slots link ≡ blank model
-slot_past model slots link past = get_or_past slots link (blank model) past
-
--- a slot is written that keeps its entry
-pub set_keeps : {S : Type 0} (model : SummaryModel S) (old : List (Slot S)) (v : Slot S) (i : ℕ) → i < length old → entry v ≡ entries model old i → Kept model old (set old i v)
-set_keeps model old v i within told = record {
-  same = λ k. ⊎_elim (λ e. rw e (ap entry (get_or-set_same old i v (blank model) within) ∙ told)) (λ ne. ap entry (get_or-set_other old i k v (blank model) ne)) (cases_eq k i);
-  long = length-set old i v;
-}
+-- the parts of the tree at a link, read in the slot that is found there
+pub parts_at : {S : Type 0} (model : SummaryModel S) (slots : List (Slot S)) (link : ℕ) (found : Slot S) (up : Parts) → link < length slots → found ≡ get_or slots link found → up ≡ parts found link → up ≡ parts (slot model slots link) link
+parts_at model slots link found up within read is = is ∙ ap (λ s. parts s link) (get_or_read slots link found within read (blank model))
 
 pub all_kept : {S : Type 0} (model : SummaryModel S) (slots : List (Slot S)) → Kept model slots slots
 all_kept model slots = record { same = λ k. refl; long = refl }
@@ -30,20 +24,11 @@ pub then_kept : {S : Type 0} (model : SummaryModel S) (old mid new : List (Slot 
 then_kept model old mid new first second = record { same = λ k. second.same k ∙ first.same k; long = second.long ∙ first.long }
 
 module _ {S : Type 0} (model : SummaryModel S) (summed : Operation → S) (es : ℕ → Entry) where
-  pub level_of : (slots : List (Slot S)) (link : ℕ) (t : Tree) → Chained model summed es slots link t → (slot model slots link).level ≡ levels t
+  -- the slot at a link has the figures of the tree there
+  pub figures_of : (slots : List (Slot S)) (link : ℕ) (top : Slot S) (t : Tree) → top ≡ slot model slots link → Chained model summed es slots link t → (top.level ≡ levels t) × (top.count ≡ tree_count (standing es) t) × (top.joined ≡ tree_join model (own model summed es) t)
   unfolding Chained
-  level_of slots link leaf h = ap (λ s. s.level) (slot_past model slots link h)
-  level_of slots link (node a i b) h = rw h.0 h.4
-
-  pub count_of : (slots : List (Slot S)) (link : ℕ) (t : Tree) → Chained model summed es slots link t → (slot model slots link).count ≡ tree_count (standing es) t
-  unfolding Chained
-  count_of slots link leaf h = ap (λ s. s.count) (slot_past model slots link h)
-  count_of slots link (node a i b) h = rw h.0 h.5
-
-  pub joined_of : (slots : List (Slot S)) (link : ℕ) (t : Tree) → Chained model summed es slots link t → (slot model slots link).joined ≡ tree_join model (own model summed es) t
-  unfolding Chained
-  joined_of slots link leaf h = ap (λ s. s.joined) (slot_past model slots link h)
-  joined_of slots link (node a i b) h = rw h.0 h.6
+  figures_of slots link top leaf read h = rw (read, get_or_past slots link (blank model) h) (refl, refl, refl)
+  figures_of slots link top (node a i b) read h = rw (read, h.0) (h.4, h.5, h.6)
 
   -- slots whose placements are those of the tree hold the tree
   pub frame : (old new : List (Slot S)) (link : ℕ) (t : Tree) → length new ≡ length old → ((k : ℕ) → In k (inorder t) → placement (slot model new k) ≡ placement (slot model old k)) → Chained model summed es old link t → Chained model summed es new link t

@@ -3,8 +3,9 @@ use Rattle.std.proofs.Common.{◌≡◌, ℕ, ◌<◌, ◌≤◌, List, ◌∷�
 use Rattle.avl.specs.Tree.{leaf, node, inorder, turn_left, turn_right}
 use Rattle.avl.specs.Summary.{SummaryModel}
 use Rattle.machines.specs.declared.operation.Operation.{Operation}
+use Rattle.slots.specs.declared.slot.Parts.{Parts}
 use Rattle.slots.specs.declared.slot.Slot.{Slot}
-use Rattle.slots.specs.Slots.{slot, Kept}
+use Rattle.slots.specs.Slots.{slot, parts, Kept}
 use Rattle.slots.specs.Chain.{Chained, Once, Makes}
 use Rattle.slots.proofs.Lists.{in_left, in_right, once_left, once_right, once_apart}
 use Rattle.slots.proofs.Chains.{then_formed, then_tied, beside}
@@ -15,7 +16,7 @@ module _ {S : Type 0} (model : SummaryModel S) (summed : Operation → S) where
   turn_left_leaf old new left i right root past put es a leaf tied ha hb inside once few = put es a leaf tied ha hb inside once few
   turn_left_leaf old new left i right root past put es a (node b j c) tied ha hb inside once few = absurd (omega arith)
 
-  pub turn_left_node : (old mid new : List (Slot S)) (left i right low root : ℕ) → right < length old → (up : Slot S) → up ≡ slot model old right → Kept model old mid → Makes model summed node old mid left i up.left low → Makes model summed node mid new low right up.right root → Makes model summed turn_left old new left i right root
+  pub turn_left_node : (old mid new : List (Slot S)) (left i right low root : ℕ) → right < length old → (up : Parts) → up ≡ parts (slot model old right) right → Kept model old mid → Makes model summed node old mid left i up.left low → Makes model summed node mid new low up.top up.right root → Makes model summed turn_left old new left i right root
   unfolding Chained turn_left
   turn_left_node old mid new left i right low root within up read kept p q es a leaf tied ha hb inside once few = absurd (omega arith)
   turn_left_node old mid new left i right low root within up read kept p q es a (node b j c) tied ha hb inside once few =
@@ -33,7 +34,7 @@ module _ {S : Type 0} (model : SummaryModel S) (summed : Operation → S) where
   turn_right_leaf old new left i right root past put es leaf b tied ha hb inside once few = put es leaf b tied ha hb inside once few
   turn_right_leaf old new left i right root past put es (node a j b) c tied ha hc inside once few = absurd (omega arith)
 
-  pub turn_right_node : (old mid new : List (Slot S)) (left i right low root : ℕ) → left < length old → (up : Slot S) → up ≡ slot model old left → Kept model old mid → Makes model summed node old mid up.right i right low → Makes model summed node mid new up.left left low root → Makes model summed turn_right old new left i right root
+  pub turn_right_node : (old mid new : List (Slot S)) (left i right low root : ℕ) → left < length old → (up : Parts) → up ≡ parts (slot model old left) left → Kept model old mid → Makes model summed node old mid up.right i right low → Makes model summed node mid new up.left up.top low root → Makes model summed turn_right old new left i right root
   unfolding Chained turn_right Once
   turn_right_node old mid new left i right low root within up read kept p q es leaf c tied ha hc inside once few = absurd (omega arith)
   turn_right_node old mid new left i right low root within up read kept p q es (node a j b) c tied ha hc inside once few =

@@ -2,7 +2,9 @@
 use Rattle.std.specs.Prelude.{◌≡◌, ℕ, ◌+◌, min, Bool, false, cond, List, [], ◌∷◌, length, pos, None, slice_index_or}
 use Rattle.avl.specs.Summary.{SummaryModel}
 use Rattle.machines.specs.declared.operation.Operation.{Operation}
-use Rattle.machines.specs.Model.{Note}
+use Rattle.machines.specs.declared.operation.Note.{Note}
+use Rattle.machines.specs.declared.operation.Note.TheVariants.{Idle}
+use Rattle.slots.specs.declared.slot.Parts.{Parts}
 use Rattle.slots.specs.declared.slot.Slot.{Slot}
 
 pub record Entry : Type 0 where
@@ -24,6 +26,10 @@ entry s = record { date = s.date; operation = s.operation; standing = s.standing
 
 abbrev pub placement : {S : Type 0} → Slot S → Placement S
 placement s = record { left = s.left; right = s.right; level = s.level; count = s.count; joined = s.joined }
+
+-- the parts of the tree that a slot is the top of, where `top` is its number
+abbrev pub parts : {S : Type 0} → Slot S → ℕ → Parts
+parts s top = record { left = s.left; top = top; right = s.right }
 
 -- the standing entries of a tree whose sides have so many; sixteen bits hold no more than 65,535
 abbrev pub count_over : ℕ → Bool → ℕ → ℕ

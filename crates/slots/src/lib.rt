@@ -5,4 +5,4 @@ pub mod figures;
 pub mod slot;
 pub mod tree;
 
-pub use slot::Slot;
+pub use slot::{Parts, Slot};

@@ -1,7 +1,7 @@
 // A slot holds one entry of the book, with its place in the tree of entries. A shelf is a lent slice of slots: entry n lies
 // in slot n - 1 for good.
 ghost use Rattle.std.specs.Prelude.{◌≡◌};
-ghost use Rattle.slots.specs.Slots.{blank, entry, contribution};
+ghost use Rattle.slots.specs.Slots.{blank, entry, parts, contribution};
 
 use machines::{Note, Operation};
 use watches::{Summary, Watch};
@@ -17,7 +17,8 @@ pub struct Slot<S> {
     pub standing: bool,
     // what the last step of a machine with this operation gave
     pub note: Note,
-    // A link is the number of a slot. One that is not below the number of slots leads nowhere.
+    // A link is the number of a slot. One that is not below the number of slots leads nowhere. Links are numbers and no
+    // pointers since the slots are lent, and no call takes memory.
     pub left: u16,
     pub right: u16,
     // the levels of the tree that this slot is the top of
@@ -60,4 +61,23 @@ impl<S: Summary> Slot<S> {
             S::unit()
         }
     }
+
+    // The parts of the tree that this slot is the top of, where `top` is its number.
+    pub fn parts(&self, top: u16) -> Parts
+        ensures { result ≡ parts self.now top }
+    {
+        Parts {
+            left: self.left,
+            top,
+            right: self.right,
+        }
+    }
+}
+
+// What a tree is made of: the number of the slot at its top, and the links to its two sides.
+#[derive(Clone, Copy, PartialEq, Eq)]
+pub struct Parts {
+    pub left: u16,
+    pub top: u16,
+    pub right: u16,
 }

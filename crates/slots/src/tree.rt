@@ -1,147 +1,124 @@
-// The changes of the tree: all of them go through `put`, which makes a slot the top of two trees and computes its figures.
+// The changes of the tree: all of them go through `put`, which makes the tree of some parts and computes its figures.
 // The rotations of Adelson-Velsky and Landis are compositions of it.
+// The shelf and the watch stay two parameters. As fields of one struct they were tried: each method has to borrow the slice
+// out of its field by a line of its own, and each contract has to say that the watch stays the same, which is no plainer.
 ghost use Rattle.std.specs.Prelude.{◌≡◌, ◌≤◌, length};
 ghost use Rattle.avl.specs.Tree.{node, turn_left, turn_right, lift_left, lift_right, balance};
 ghost use Rattle.slots.specs.Slots.{Kept};
 ghost use Rattle.slots.specs.Chain.{Makes};
 
-use crate::Slot;
-use crate::figures::{figures_over, level_at};
+use crate::figures::{figures_over, slot_at};
+use crate::{Parts, Slot};
 use avl::Lean;
 use watches::{Summary, Watch};
 
-// Makes slot `top` the top of the trees at two links, and answers the link to it. A number that is no slot's changes nothing.
-pub fn put<W: Watch>(
-    shelf: &mut [Slot<W::Summary>],
-    left: u16,
-    top: u16,
-    right: u16,
-    watch: &W,
-) -> u16
-    ensures refused { length shelf.old ≤ top → (result ≡ top) × (shelf.new ≡ shelf.old) }
+// Makes the tree of these parts, and answers the link to its top. A number that is no slot's changes nothing.
+pub fn put<W: Watch>(shelf: &mut [Slot<W::Summary>], parts: Parts, watch: &W) -> u16
+    ensures refused { length shelf.old ≤ parts.top → (result ≡ parts.top) × (shelf.new ≡ shelf.old) }
     ensures kept { Kept W.Summary.Summary.model shelf.old shelf.new }
-    ensures makes { Makes W.Summary.Summary.model (W.Watch.summed watch.now) node shelf.old shelf.new left top right result }
+    ensures makes { Makes W.Summary.Summary.model (W.Watch.summed watch.now) node shelf.old shelf.new parts.left parts.top parts.right result }
 {
-    if top as usize >= shelf.len() {
-        return top;
+    if parts.top as usize >= shelf.len() {
+        return parts.top;
     }
-    let figures = figures_over(shelf, left, top, right, watch);
-    let node = &shelf[top as usize];
-    shelf[top as usize] = Slot {
-        left,
-        right,
+    let figures = figures_over(shelf, parts, watch);
+    let node = &shelf[parts.top as usize];
+    shelf[parts.top as usize] = Slot {
+        left: parts.left,
+        right: parts.right,
         level: figures.level,
         count: figures.count,
         joined: figures.joined,
         ..*node
     };
-    top
+    parts.top
 }
 
-// A rotation: the top of the right side comes up, and `top` goes down to the left of it.
-fn turn_left<W: Watch>(
-    shelf: &mut [Slot<W::Summary>],
-    left: u16,
-    top: u16,
-    right: u16,
-    watch: &W,
-) -> u16
+// A rotation: the top of the right side comes up, and the old top goes down to the left of it.
+fn turn_left<W: Watch>(shelf: &mut [Slot<W::Summary>], parts: Parts, watch: &W) -> u16
     ensures kept { Kept W.Summary.Summary.model shelf.old shelf.new }
-    ensures makes { Makes W.Summary.Summary.model (W.Watch.summed watch.now) turn_left shelf.old shelf.new left top right result }
+    ensures makes { Makes W.Summary.Summary.model (W.Watch.summed watch.now) turn_left shelf.old shelf.new parts.left parts.top parts.right result }
 {
-    let Some(up) = shelf.get(right as usize) else {
-        return put(shelf, left, top, right, watch);
+    let Some(slot) = shelf.get(parts.right as usize) else {
+        return put(shelf, parts, watch);
     };
-    let (inner, outer) = (up.left, up.right);
-    let low = put(shelf, left, top, inner, watch);
-    put(shelf, low, right, outer, watch)
+    let up = slot.parts(parts.right);
+    let low = Parts {
+        right: up.left,
+        ..parts
+    };
+    let left = put(shelf, low, watch);
+    put(shelf, Parts { left, ..up }, watch)
 }
 
-// The same the other way round.
-fn turn_right<W: Watch>(
-    shelf: &mut [Slot<W::Summary>],
-    left: u16,
-    top: u16,
-    right: u16,
-    watch: &W,
-) -> u16
+// The same the other way round. The mirrored functions stay two and two: with the side as a parameter, every link that
+// they read or write would be chosen by a match.
+fn turn_right<W: Watch>(shelf: &mut [Slot<W::Summary>], parts: Parts, watch: &W) -> u16
     ensures kept { Kept W.Summary.Summary.model shelf.old shelf.new }
-    ensures makes { Makes W.Summary.Summary.model (W.Watch.summed watch.now) turn_right shelf.old shelf.new left top right result }
+    ensures makes { Makes W.Summary.Summary.model (W.Watch.summed watch.now) turn_right shelf.old shelf.new parts.left parts.top parts.right result }
 {
-    let Some(up) = shelf.get(left as usize) else {
-        return put(shelf, left, top, right, watch);
+    let Some(slot) = shelf.get(parts.left as usize) else {
+        return put(shelf, parts, watch);
     };
-    let (outer, inner) = (up.left, up.right);
-    let low = put(shelf, inner, top, right, watch);
-    put(shelf, outer, left, low, watch)
+    let up = slot.parts(parts.left);
+    let low = Parts {
+        left: up.right,
+        ..parts
+    };
+    let right = put(shelf, low, watch);
+    put(shelf, Parts { right, ..up }, watch)
 }
 
 // The right side is two levels deeper, and comes up. Where its inner side is the deeper one, that is turned outwards first:
 // the double rotation.
-fn lift_right<W: Watch>(
-    shelf: &mut [Slot<W::Summary>],
-    left: u16,
-    top: u16,
-    right: u16,
-    watch: &W,
-) -> u16
+fn lift_right<W: Watch>(shelf: &mut [Slot<W::Summary>], parts: Parts, watch: &W) -> u16
     ensures kept { Kept W.Summary.Summary.model shelf.old shelf.new }
-    ensures makes { Makes W.Summary.Summary.model (W.Watch.summed watch.now) lift_right shelf.old shelf.new left top right result }
+    ensures makes { Makes W.Summary.Summary.model (W.Watch.summed watch.now) lift_right shelf.old shelf.new parts.left parts.top parts.right result }
 {
-    let Some(up) = shelf.get(right as usize) else {
-        return put(shelf, left, top, right, watch);
+    let Some(slot) = shelf.get(parts.right as usize) else {
+        return put(shelf, parts, watch);
     };
-    let (inner, outer) = (up.left, up.right);
-    if level_at(shelf, outer) < level_at(shelf, inner) {
-        let side = turn_right(shelf, inner, right, outer, watch);
-        turn_left(shelf, left, top, side, watch)
+    let up = slot.parts(parts.right);
+    if slot_at(shelf, up.right).level < slot_at(shelf, up.left).level {
+        let right = turn_right(shelf, up, watch);
+        turn_left(shelf, Parts { right, ..parts }, watch)
     } else {
-        turn_left(shelf, left, top, right, watch)
+        turn_left(shelf, parts, watch)
     }
 }
 
 // The left side is two levels deeper, and comes up.
-fn lift_left<W: Watch>(
-    shelf: &mut [Slot<W::Summary>],
-    left: u16,
-    top: u16,
-    right: u16,
-    watch: &W,
-) -> u16
+fn lift_left<W: Watch>(shelf: &mut [Slot<W::Summary>], parts: Parts, watch: &W) -> u16
     ensures kept { Kept W.Summary.Summary.model shelf.old shelf.new }
-    ensures makes { Makes W.Summary.Summary.model (W.Watch.summed watch.now) lift_left shelf.old shelf.new left top right result }
+    ensures makes { Makes W.Summary.Summary.model (W.Watch.summed watch.now) lift_left shelf.old shelf.new parts.left parts.top parts.right result }
 {
-    let Some(up) = shelf.get(left as usize) else {
-        return put(shelf, left, top, right, watch);
+    let Some(slot) = shelf.get(parts.left as usize) else {
+        return put(shelf, parts, watch);
     };
-    let (outer, inner) = (up.left, up.right);
-    if level_at(shelf, inner) > level_at(shelf, outer) {
-        let side = turn_left(shelf, outer, left, inner, watch);
-        turn_right(shelf, side, top, right, watch)
+    let up = slot.parts(parts.left);
+    if slot_at(shelf, up.right).level > slot_at(shelf, up.left).level {
+        let left = turn_left(shelf, up, watch);
+        turn_right(shelf, Parts { left, ..parts }, watch)
     } else {
-        turn_right(shelf, left, top, right, watch)
+        turn_right(shelf, parts, watch)
     }
 }
 
-// Makes slot `top` the top of two trees whose levels may differ by two, with the rotations that balance wants. Answers the
+// Makes the tree of these parts, whose sides' levels may differ by two, with the rotations that balance wants. Answers the
 // link to the top of what is made. A number that is no slot's changes nothing.
-pub fn rebalance<W: Watch>(
-    shelf: &mut [Slot<W::Summary>],
-    left: u16,
-    top: u16,
-    right: u16,
-    watch: &W,
-) -> u16
-    ensures refused { length shelf.old ≤ top → (result ≡ top) × (shelf.new ≡ shelf.old) }
+pub fn rebalance<W: Watch>(shelf: &mut [Slot<W::Summary>], parts: Parts, watch: &W) -> u16
+    ensures refused { length shelf.old ≤ parts.top → (result ≡ parts.top) × (shelf.new ≡ shelf.old) }
     ensures kept { Kept W.Summary.Summary.model shelf.old shelf.new }
-    ensures makes { Makes W.Summary.Summary.model (W.Watch.summed watch.now) balance shelf.old shelf.new left top right result }
+    ensures makes { Makes W.Summary.Summary.model (W.Watch.summed watch.now) balance shelf.old shelf.new parts.left parts.top parts.right result }
 {
-    if top as usize >= shelf.len() {
-        return top;
+    if parts.top as usize >= shelf.len() {
+        return parts.top;
     }
-    match Lean::of(level_at(shelf, left), level_at(shelf, right)) {
-        Lean::Even => put(shelf, left, top, right, watch),
-        Lean::Left => lift_left(shelf, left, top, right, watch),
-        Lean::Right => lift_right(shelf, left, top, right, watch),
+    let left = slot_at(shelf, parts.left);
+    let right = slot_at(shelf, parts.right);
+    match Lean::of(left.level, right.level) {
+        Lean::Even => put(shelf, parts, watch),
+        Lean::Left => lift_left(shelf, parts, watch),
+        Lean::Right => lift_right(shelf, parts, watch),
     }
 }
