@@ -3,7 +3,7 @@ use machines::{Operation, Question};
 
 // Entering adds an entry: an operation under a date. Asking reads what a new machine answers after the entries dated no
 // later than the date.
-#[derive(Clone, Copy)]
+#[derive(Clone, Copy, PartialEq, Eq)]
 pub enum Call<D> {
     Enter(D, Operation),
     Ask(D, Question),

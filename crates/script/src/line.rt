@@ -19,7 +19,7 @@ pub enum Setting {
 }
 
 // A call with the number of its line, from 1. Where there is no such date, the call is refused for it.
-#[derive(Drop)]
+#[derive(PartialEq, Eq, Drop)]
 pub struct Line<D> {
     pub number: usize,
     pub call: Result<Call<D>, NoSuchDate>,

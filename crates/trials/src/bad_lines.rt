@@ -1,6 +1,5 @@
 // Scripts that cannot be read: the first bad line is named, with the reason.
 use script::{ScriptFault, parse};
-use std::alloc::Global;
 use std::process::Abort;
 use std::test::Fail;
 
@@ -21,18 +20,17 @@ const NOT_UNSIGNED: &str = "not a number from 0 to 65535";
 const NOT_SIGNED: &str = "not a number from -2147483648 to 2147483647";
 
 fn is_bad(
-    rt: &impl Abort,
-    heap: Global,
+    rt: &(impl Abort + AllocGlobal),
     text: &str,
     line: usize,
     reason: &str,
 ) -> Result<(), Fail> {
-    match parse(heap, text) {
+    match parse(rt.alloc(), text) {
         Ok(_) => Err(Fail::new(format_args!("{text}: the script is read"))),
         Err(ScriptFault::NoMemory) => Err(Fail::new(format_args!("{text}: no memory"))),
         Err(ScriptFault::BadLine(number, found)) => {
             assert_eq!(rt; number, line, "{text}");
-            assert_eq!(rt; found.to_string(heap)?.as_str(), reason, "{text}");
+            assert_eq!(rt; found.to_string(rt.alloc())?.as_str(), reason, "{text}");
             Ok(())
         }
     }
@@ -40,14 +38,13 @@ fn is_bad(
 
 // Each script has this line as its first bad one, for this reason.
 fn are_bad(
-    rt: &impl Abort,
-    heap: Global,
+    rt: &(impl Abort + AllocGlobal),
     line: usize,
     reason: &str,
     texts: &[&str],
 ) -> Result<(), Fail> {
     for text in texts {
-        is_bad(rt, heap, text, line, reason)?;
+        is_bad(rt, text, line, reason)?;
     }
     Ok(())
 }
@@ -56,7 +53,6 @@ fn are_bad(
 fn a_command_is_enter_or_ask_with_a_date(rt: HostRuntime) -> Result<(), Fail> {
     are_bad(
         &rt,
-        rt.alloc(),
         1,
         NO_COMMAND,
         &[
@@ -74,7 +70,6 @@ fn a_command_is_enter_or_ask_with_a_date(rt: HostRuntime) -> Result<(), Fail> {
 fn the_kinds_of_date_are_days_and_survey(rt: HostRuntime) -> Result<(), Fail> {
     are_bad(
         &rt,
-        rt.alloc(),
         1,
         NO_KIND,
         &[
@@ -90,7 +85,6 @@ fn the_kinds_of_date_are_days_and_survey(rt: HostRuntime) -> Result<(), Fail> {
 fn the_kind_of_date_is_not_named_after_a_call(rt: HostRuntime) -> Result<(), Fail> {
     are_bad(
         &rt,
-        rt.alloc(),
         2,
         LATE_KIND,
         &["enter 10 draw\ndates days", "ask 10 waiting\ndates moons"],
@@ -101,7 +95,6 @@ fn the_kind_of_date_is_not_named_after_a_call(rt: HostRuntime) -> Result<(), Fai
 fn an_operation_has_its_number_of_words(rt: HostRuntime) -> Result<(), Fail> {
     are_bad(
         &rt,
-        rt.alloc(),
         1,
         NO_OPERATION,
         &[
@@ -125,7 +118,6 @@ fn an_operation_has_its_number_of_words(rt: HostRuntime) -> Result<(), Fail> {
 fn a_question_has_its_number_of_words(rt: HostRuntime) -> Result<(), Fail> {
     are_bad(
         &rt,
-        rt.alloc(),
         1,
         NO_QUESTION,
         &[
@@ -149,7 +141,6 @@ fn a_question_has_its_number_of_words(rt: HostRuntime) -> Result<(), Fail> {
 fn a_code_and_a_place_are_0_to_65535(rt: HostRuntime) -> Result<(), Fail> {
     are_bad(
         &rt,
-        rt.alloc(),
         1,
         NOT_UNSIGNED,
         &[
@@ -168,7 +159,6 @@ fn a_code_and_a_place_are_0_to_65535(rt: HostRuntime) -> Result<(), Fail> {
 fn an_amount_and_an_index_are_numbers_of_32_bits(rt: HostRuntime) -> Result<(), Fail> {
     are_bad(
         &rt,
-        rt.alloc(),
         1,
         NOT_SIGNED,
         &[
@@ -186,7 +176,6 @@ fn an_amount_and_an_index_are_numbers_of_32_bits(rt: HostRuntime) -> Result<(), 
 fn a_day_is_a_number_of_32_bits(rt: HostRuntime) -> Result<(), Fail> {
     are_bad(
         &rt,
-        rt.alloc(),
         1,
         NO_DATE,
         &[
@@ -202,7 +191,6 @@ fn a_day_is_a_number_of_32_bits(rt: HostRuntime) -> Result<(), Fail> {
 fn a_survey_date_is_one_to_three_numbers_that_fit(rt: HostRuntime) -> Result<(), Fail> {
     are_bad(
         &rt,
-        rt.alloc(),
         2,
         NO_DATE,
         &[
@@ -221,7 +209,6 @@ fn a_survey_date_is_one_to_three_numbers_that_fit(rt: HostRuntime) -> Result<(),
 fn the_date_is_read_before_the_operation(rt: HostRuntime) -> Result<(), Fail> {
     are_bad(
         &rt,
-        rt.alloc(),
         1,
         NO_DATE,
         &["enter x", "enter x change x x", "ask x which"],
@@ -232,7 +219,6 @@ fn the_date_is_read_before_the_operation(rt: HostRuntime) -> Result<(), Fail> {
 fn lines_are_numbered_from_1_with_blank_lines_and_comments(rt: HostRuntime) -> Result<(), Fail> {
     are_bad(
         &rt,
-        rt.alloc(),
         3,
         NO_COMMAND,
         &[

@@ -1,89 +1,72 @@
 // The statuses of a board: alone, and last of a pair.
-use crate::runs::{Act, Fact, hold, run};
-use machines::{Machine, Pair};
-use primitives::{Board, Queue, SET, Tally};
-use std::alloc::Global;
+use crate::runs::{Trial, question, set, status};
+use house::HouseMachine;
+use machines::Machine;
+use primitives::{Board, SET};
 use std::process::Abort;
 use std::test::Fail;
 
-fn paths_and_statuses_end<M: Machine>(rt: &impl Abort) -> Result<(), Fail> {
-    hold::<M>(
-        rt,
-        &[
-            Fact::Known(SET, 63, 0),
-            Fact::Unknown(SET, 63, -1),
-            Fact::Known(SET, 63, 7),
-            Fact::Unknown(SET, 63, 8),
-            Fact::Unknown(SET, 64, 7),
-            Fact::Answered(SET, 63, 0),
-            Fact::Unanswered(SET, 63, 1),
-            Fact::Unanswered(SET, 64, 0),
-        ],
-    )
+fn paths_and_statuses_end<M: Machine>(rt: &impl Abort) {
+    assert!(rt; M::knows(&set(63, 0)));
+    assert!(rt; !M::knows(&set(63, -1)));
+    assert!(rt; M::knows(&set(63, 7)));
+    assert!(rt; !M::knows(&set(63, 8)));
+    assert!(rt; !M::knows(&set(64, 7)));
+    assert!(rt; M::answers(&status(63)));
+    assert!(rt; !M::answers(&question(SET, 63, 1)));
+    assert!(rt; !M::answers(&status(64)));
 }
 
 // A set notes the old status, and its taking back restores it.
-fn set_notes_the_old<M: Machine>(rt: &impl Abort, heap: Global) -> Result<(), Fail> {
-    run::<M>(
-        rt,
-        heap,
-        &[
-            Act::Steps(SET, 63, 7, Some(0)),
-            Act::Steps(SET, 63, 2, Some(7)),
-            Act::Reads(SET, 63, 0, Some(2)),
-            Act::TakesBack,
-            Act::Reads(SET, 63, 0, Some(7)),
-            Act::TakesBack,
-            Act::Reads(SET, 63, 0, Some(0)),
-        ],
-    )
+fn set_notes_the_old<M: Machine>(rt: &(impl Abort + AllocGlobal)) -> Result<(), Fail> {
+    let mut machine = Trial::<M>::new(rt.alloc())?;
+    assert_eq!(rt; machine.step(set(63, 7))?, Some(0));
+    assert_eq!(rt; machine.step(set(63, 2))?, Some(7));
+    assert_eq!(rt; machine.read(status(63)), Some(2));
+    machine.take_back()?;
+    assert_eq!(rt; machine.read(status(63)), Some(7));
+    machine.take_back()?;
+    assert_eq!(rt; machine.read(status(63)), Some(0));
+    Ok(())
 }
 
 #[test]
-fn the_paths_of_a_board_end_at_63_and_its_statuses_at_7(rt: HostRuntime) -> Result<(), Fail> {
-    paths_and_statuses_end::<Board>(&rt)
+fn the_paths_of_a_board_end_at_63_and_its_statuses_at_7(rt: HostRuntime) {
+    paths_and_statuses_end::<Board>(&rt);
 }
 
 #[test]
-fn the_paths_of_a_pair_end_at_63_and_its_statuses_at_7(rt: HostRuntime) -> Result<(), Fail> {
-    paths_and_statuses_end::<Pair<Tally, Pair<Queue, Board>>>(&rt)
+fn the_paths_of_a_pair_end_at_63_and_its_statuses_at_7(rt: HostRuntime) {
+    paths_and_statuses_end::<HouseMachine>(&rt);
 }
 
 #[test]
 fn a_set_of_a_board_notes_the_old_status(rt: HostRuntime) -> Result<(), Fail> {
-    set_notes_the_old::<Board>(&rt, rt.alloc())
+    set_notes_the_old::<Board>(&rt)
 }
 
 #[test]
 fn a_set_of_a_pair_notes_the_old_status(rt: HostRuntime) -> Result<(), Fail> {
-    set_notes_the_old::<Pair<Tally, Pair<Queue, Board>>>(&rt, rt.alloc())
+    set_notes_the_old::<HouseMachine>(&rt)
 }
 
 #[test]
 fn a_set_leaves_the_paths_beside_it(rt: HostRuntime) -> Result<(), Fail> {
-    run::<Board>(
-        &rt,
-        rt.alloc(),
-        &[
-            Act::Steps(SET, 1, 5, Some(0)),
-            Act::Reads(SET, 0, 0, Some(0)),
-            Act::Reads(SET, 1, 0, Some(5)),
-            Act::Reads(SET, 2, 0, Some(0)),
-        ],
-    )
+    let mut board = Trial::<Board>::new(rt.alloc())?;
+    assert_eq!(rt; board.step(set(1, 5))?, Some(0));
+    assert_eq!(rt; board.read(status(0)), Some(0));
+    assert_eq!(rt; board.read(status(1)), Some(5));
+    assert_eq!(rt; board.read(status(2)), Some(0));
+    Ok(())
 }
 
 #[test]
 fn a_set_to_status_8_is_idle(rt: HostRuntime) -> Result<(), Fail> {
-    run::<Board>(
-        &rt,
-        rt.alloc(),
-        &[
-            Act::Steps(SET, 3, 7, Some(0)),
-            Act::Steps(SET, 3, 8, None),
-            Act::Reads(SET, 3, 0, Some(7)),
-            Act::TakesBack,
-            Act::Reads(SET, 3, 0, Some(7)),
-        ],
-    )
+    let mut board = Trial::<Board>::new(rt.alloc())?;
+    assert_eq!(rt; board.step(set(3, 7))?, Some(0));
+    assert_eq!(rt; board.step(set(3, 8))?, None);
+    assert_eq!(rt; board.read(status(3)), Some(7));
+    board.take_back()?;
+    assert_eq!(rt; board.read(status(3)), Some(7));
+    Ok(())
 }

@@ -1,83 +1,64 @@
 // What a counter counts.
-use crate::runs::{Act, run};
-use machines::Pair;
-use primitives::{Board, CHANGE, DRAW, ORDER, Queue, Tally};
+use crate::runs::{Trial, change, count, draw, order};
+use house::HouseMachine;
+use machines::Steps;
+use primitives::{Queue, Tally};
 use std::test::Fail;
 
 #[test]
 fn a_new_counter_has_counted_nothing(rt: HostRuntime) -> Result<(), Fail> {
-    run::<Tally>(
-        &rt,
-        rt.alloc(),
-        &[
-            Act::Counts(0, 0),
-            Act::Reads(CHANGE, 0, 0, Some(0)),
-            Act::Counts(0, 0),
-        ],
-    )
+    let mut tally = Trial::<Tally>::new(rt.alloc())?;
+    assert!(rt; tally.steps() == Steps { back: 0, forward: 0 });
+    assert_eq!(rt; tally.read(count(0)), Some(0));
+    assert!(rt; tally.steps() == Steps { back: 0, forward: 0 });
+    Ok(())
 }
 
 #[test]
 fn steps_back_and_forward_are_counted_apart(rt: HostRuntime) -> Result<(), Fail> {
-    run::<Tally>(
-        &rt,
-        rt.alloc(),
-        &[
-            Act::Steps(CHANGE, 0, 5, Some(0)),
-            Act::Steps(CHANGE, 0, 5, Some(0)),
-            Act::Counts(0, 2),
-            Act::TakesBack,
-            Act::Counts(1, 2),
-            Act::Reads(CHANGE, 0, 0, Some(5)),
-        ],
-    )
+    let mut tally = Trial::<Tally>::new(rt.alloc())?;
+    assert_eq!(rt; tally.step(change(0, 5))?, Some(0));
+    assert_eq!(rt; tally.step(change(0, 5))?, Some(0));
+    assert!(rt; tally.steps() == Steps { back: 0, forward: 2 });
+    tally.take_back()?;
+    assert!(rt; tally.steps() == Steps { back: 1, forward: 2 });
+    assert_eq!(rt; tally.read(count(0)), Some(5));
+    Ok(())
 }
 
 #[test]
 fn an_idle_step_and_its_taking_back_are_counted(rt: HostRuntime) -> Result<(), Fail> {
-    run::<Queue>(
-        &rt,
-        rt.alloc(),
-        &[
-            Act::Steps(DRAW, 0, 0, None),
-            Act::Counts(0, 1),
-            Act::TakesBack,
-            Act::Counts(1, 1),
-        ],
-    )
+    let mut queue = Trial::<Queue>::new(rt.alloc())?;
+    assert_eq!(rt; queue.step(draw())?, None);
+    assert!(rt; queue.steps() == Steps { back: 0, forward: 1 });
+    queue.take_back()?;
+    assert!(rt; queue.steps() == Steps { back: 1, forward: 1 });
+    Ok(())
 }
 
 #[test]
 fn begin_counts_from_0_and_leaves_the_machine(rt: HostRuntime) -> Result<(), Fail> {
-    run::<Tally>(
-        &rt,
-        rt.alloc(),
-        &[
-            Act::Steps(CHANGE, 0, 5, Some(0)),
-            Act::TakesBack,
-            Act::Steps(CHANGE, 0, 6, Some(0)),
-            Act::Counts(1, 2),
-            Act::Begins,
-            Act::Counts(0, 0),
-            Act::Reads(CHANGE, 0, 0, Some(6)),
-            Act::TakesBack,
-            Act::Counts(1, 0),
-            Act::Reads(CHANGE, 0, 0, Some(0)),
-        ],
-    )
+    let mut tally = Trial::<Tally>::new(rt.alloc())?;
+    assert_eq!(rt; tally.step(change(0, 5))?, Some(0));
+    tally.take_back()?;
+    assert_eq!(rt; tally.step(change(0, 6))?, Some(0));
+    assert!(rt; tally.steps() == Steps { back: 1, forward: 2 });
+    tally.begin();
+    assert!(rt; tally.steps() == Steps { back: 0, forward: 0 });
+    assert_eq!(rt; tally.read(count(0)), Some(6));
+    tally.take_back()?;
+    assert!(rt; tally.steps() == Steps { back: 1, forward: 0 });
+    assert_eq!(rt; tally.read(count(0)), Some(0));
+    Ok(())
 }
 
 #[test]
 fn every_step_of_a_long_run_is_counted(rt: HostRuntime) -> Result<(), Fail> {
-    run::<Pair<Tally, Pair<Queue, Board>>>(
-        &rt,
-        rt.alloc(),
-        &[
-            Act::Repeats(ORDER, 0, 0, 1024),
-            Act::Steps(ORDER, 0, 0, None),
-            Act::Repeats(CHANGE, 0, 1_000_000, 2000),
-            Act::Steps(CHANGE, 0, 1, None),
-            Act::Counts(0, 3026),
-        ],
-    )
+    let mut house = Trial::<HouseMachine>::new(rt.alloc())?;
+    assert!(rt; house.moves(order(0), 1024)?);
+    assert_eq!(rt; house.step(order(0))?, None);
+    assert!(rt; house.moves(change(0, 1_000_000), 2000)?);
+    assert_eq!(rt; house.step(change(0, 1))?, None);
+    assert!(rt; house.steps() == Steps { back: 0, forward: 3026 });
+    Ok(())
 }

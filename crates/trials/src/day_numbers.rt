@@ -6,17 +6,13 @@ use std::test::Fail;
 // The day of the number has these bytes, and they are of this day.
 fn has_bytes(rt: &impl Abort, number: i32, bytes: [u8; 4]) -> Result<(), Fail> {
     assert_eq!(rt; DayNumber::new(number).to_bytes(), bytes);
-    match DayNumber::from_bytes(bytes) {
-        Ok(day) => {
-            assert_eq!(rt; day.number(), number);
-            Ok(())
-        },
-        Err(fault) => Err(Fail::new(fault)),
-    }
+    let day = DayNumber::from_bytes(bytes).map_err(Fail::new)?;
+    assert_eq!(rt; day.number(), number);
+    Ok(())
 }
 
 // Each day compares with each as their indexes do.
-fn are_in_order(rt: &impl Abort, numbers: &[i32]) -> Result<(), Fail> {
+fn are_in_order(rt: &impl Abort, numbers: &[i32]) {
     for (i, left) in numbers.iter().enumerate() {
         for (j, right) in numbers.iter().enumerate() {
             assert_eq!(rt;
@@ -26,13 +22,11 @@ fn are_in_order(rt: &impl Abort, numbers: &[i32]) -> Result<(), Fail> {
             );
         }
     }
-    Ok(())
 }
 
 #[test]
-fn the_kind_is_1(rt: HostRuntime) -> Result<(), Fail> {
+fn the_kind_is_1(rt: HostRuntime) {
     assert_eq!(rt; DayNumber::kind(), 1);
-    Ok(())
 }
 
 #[test]
@@ -44,6 +38,6 @@ fn the_low_byte_comes_first(rt: HostRuntime) -> Result<(), Fail> {
 }
 
 #[test]
-fn days_are_in_the_order_of_their_numbers(rt: HostRuntime) -> Result<(), Fail> {
-    are_in_order(&rt, &[i32::MIN, -2, -1, 0, 1, i32::MAX])
+fn days_are_in_the_order_of_their_numbers(rt: HostRuntime) {
+    are_in_order(&rt, &[i32::MIN, -2, -1, 0, 1, i32::MAX]);
 }

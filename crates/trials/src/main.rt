@@ -34,9 +34,7 @@ use house::print_house_script;
 use std::{env, fs};
 
 fn main(rt: HostRuntime) -> anyhow::Result<()> {
-    let mut paths = env::args(&rt)?;
-    let _program = paths.next();
-    for path in paths {
+    for path in env::args(&rt)?.skip(1) {
         let text = fs::read_to_string(&rt, path.as_str())?;
         println!(rt; "{path}")?;
         match print_house_script(rt.alloc(), text.as_str()) {

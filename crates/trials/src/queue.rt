@@ -1,155 +1,126 @@
 // The jobs of a queue: alone, and in a pair.
-use crate::runs::{Act, Fact, hold, run};
-use machines::{Machine, Pair};
-use primitives::{Board, DRAW, ORDER, Queue, Tally};
-use std::alloc::Global;
+use crate::runs::{Trial, draw, job, operation, order, question, waiting};
+use house::HouseMachine;
+use machines::Machine;
+use primitives::{DRAW, ORDER, Queue};
 use std::process::Abort;
 use std::test::Fail;
 
 // The jobs are 0 to 999,999 and the indexes 0 to 1,023, at place 0 alone, and a draw has amount 0.
-fn jobs_and_indexes_end<M: Machine>(rt: &impl Abort) -> Result<(), Fail> {
-    hold::<M>(
-        rt,
-        &[
-            Fact::Known(ORDER, 0, 0),
-            Fact::Unknown(ORDER, 0, -1),
-            Fact::Known(ORDER, 0, 999_999),
-            Fact::Unknown(ORDER, 0, 1_000_000),
-            Fact::Unknown(ORDER, 1, 0),
-            Fact::Known(DRAW, 0, 0),
-            Fact::Unknown(DRAW, 0, 1),
-            Fact::Unknown(DRAW, 1, 0),
-            Fact::Answered(ORDER, 0, 0),
-            Fact::Unanswered(ORDER, 0, 1),
-            Fact::Answered(DRAW, 0, 0),
-            Fact::Unanswered(DRAW, 0, -1),
-            Fact::Answered(DRAW, 0, 1023),
-            Fact::Unanswered(DRAW, 0, 1024),
-            Fact::Unanswered(DRAW, 1, 0),
-        ],
-    )
+fn jobs_and_indexes_end<M: Machine>(rt: &impl Abort) {
+    assert!(rt; M::knows(&order(0)));
+    assert!(rt; !M::knows(&order(-1)));
+    assert!(rt; M::knows(&order(999_999)));
+    assert!(rt; !M::knows(&order(1_000_000)));
+    assert!(rt; !M::knows(&operation(ORDER, 1, 0)));
+    assert!(rt; M::knows(&draw()));
+    assert!(rt; !M::knows(&operation(DRAW, 0, 1)));
+    assert!(rt; !M::knows(&operation(DRAW, 1, 0)));
+    assert!(rt; M::answers(&waiting()));
+    assert!(rt; !M::answers(&question(ORDER, 0, 1)));
+    assert!(rt; M::answers(&job(0)));
+    assert!(rt; !M::answers(&job(-1)));
+    assert!(rt; M::answers(&job(1023)));
+    assert!(rt; !M::answers(&job(1024)));
+    assert!(rt; !M::answers(&question(DRAW, 1, 0)));
 }
 
 // 1,024 jobs wait. One more order is idle, and so is its taking back; the taking back of the last order makes room again.
-fn room_ends<M: Machine>(rt: &impl Abort, heap: Global) -> Result<(), Fail> {
-    run::<M>(
-        rt,
-        heap,
-        &[
-            Act::Repeats(ORDER, 0, 7, 1023),
-            Act::Steps(ORDER, 0, 8, Some(0)),
-            Act::Reads(ORDER, 0, 0, Some(1024)),
-            Act::Steps(ORDER, 0, 9, None),
-            Act::Reads(ORDER, 0, 0, Some(1024)),
-            Act::Reads(DRAW, 0, 1023, Some(8)),
-            Act::TakesBack,
-            Act::Reads(ORDER, 0, 0, Some(1024)),
-            Act::TakesBack,
-            Act::Reads(ORDER, 0, 0, Some(1023)),
-            Act::Reads(DRAW, 0, 1022, Some(7)),
-            Act::Reads(DRAW, 0, 1023, None),
-            Act::Steps(ORDER, 0, 9, Some(0)),
-            Act::Reads(DRAW, 0, 1023, Some(9)),
-        ],
-    )
+fn room_ends<M: Machine>(rt: &(impl Abort + AllocGlobal)) -> Result<(), Fail> {
+    let mut machine = Trial::<M>::new(rt.alloc())?;
+    assert!(rt; machine.moves(order(7), 1023)?);
+    assert_eq!(rt; machine.step(order(8))?, Some(0));
+    assert_eq!(rt; machine.read(waiting()), Some(1024));
+    assert_eq!(rt; machine.step(order(9))?, None);
+    assert_eq!(rt; machine.read(waiting()), Some(1024));
+    assert_eq!(rt; machine.read(job(1023)), Some(8));
+    machine.take_back()?;
+    assert_eq!(rt; machine.read(waiting()), Some(1024));
+    machine.take_back()?;
+    assert_eq!(rt; machine.read(waiting()), Some(1023));
+    assert_eq!(rt; machine.read(job(1022)), Some(7));
+    assert_eq!(rt; machine.read(job(1023)), None);
+    assert_eq!(rt; machine.step(order(9))?, Some(0));
+    assert_eq!(rt; machine.read(job(1023)), Some(9));
+    Ok(())
 }
 
 // A draw notes the job at the front, and its taking back puts the job there again.
-fn draw_takes_the_front<M: Machine>(rt: &impl Abort, heap: Global) -> Result<(), Fail> {
-    run::<M>(
-        rt,
-        heap,
-        &[
-            Act::Steps(ORDER, 0, 11, Some(0)),
-            Act::Steps(ORDER, 0, 999_999, Some(0)),
-            Act::Steps(DRAW, 0, 0, Some(11)),
-            Act::Reads(ORDER, 0, 0, Some(1)),
-            Act::Reads(DRAW, 0, 0, Some(999_999)),
-            Act::TakesBack,
-            Act::Reads(ORDER, 0, 0, Some(2)),
-            Act::Reads(DRAW, 0, 0, Some(11)),
-            Act::Reads(DRAW, 0, 1, Some(999_999)),
-        ],
-    )
+fn draw_takes_the_front<M: Machine>(rt: &(impl Abort + AllocGlobal)) -> Result<(), Fail> {
+    let mut machine = Trial::<M>::new(rt.alloc())?;
+    assert_eq!(rt; machine.step(order(11))?, Some(0));
+    assert_eq!(rt; machine.step(order(999_999))?, Some(0));
+    assert_eq!(rt; machine.step(draw())?, Some(11));
+    assert_eq!(rt; machine.read(waiting()), Some(1));
+    assert_eq!(rt; machine.read(job(0)), Some(999_999));
+    machine.take_back()?;
+    assert_eq!(rt; machine.read(waiting()), Some(2));
+    assert_eq!(rt; machine.read(job(0)), Some(11));
+    assert_eq!(rt; machine.read(job(1)), Some(999_999));
+    Ok(())
 }
 
 #[test]
-fn the_jobs_of_a_queue_are_0_to_999_999_and_its_indexes_0_to_1023(
-    rt: HostRuntime,
-) -> Result<(), Fail> {
-    jobs_and_indexes_end::<Queue>(&rt)
+fn the_jobs_of_a_queue_are_0_to_999_999_and_its_indexes_0_to_1023(rt: HostRuntime) {
+    jobs_and_indexes_end::<Queue>(&rt);
 }
 
 #[test]
-fn the_jobs_of_a_pair_are_0_to_999_999_and_its_indexes_0_to_1023(
-    rt: HostRuntime,
-) -> Result<(), Fail> {
-    jobs_and_indexes_end::<Pair<Tally, Pair<Queue, Board>>>(&rt)
+fn the_jobs_of_a_pair_are_0_to_999_999_and_its_indexes_0_to_1023(rt: HostRuntime) {
+    jobs_and_indexes_end::<HouseMachine>(&rt);
 }
 
 #[test]
 fn the_room_of_a_queue_ends_with_1024_jobs(rt: HostRuntime) -> Result<(), Fail> {
-    room_ends::<Queue>(&rt, rt.alloc())
+    room_ends::<Queue>(&rt)
 }
 
 #[test]
 fn the_room_of_a_pair_ends_with_1024_jobs(rt: HostRuntime) -> Result<(), Fail> {
-    room_ends::<Pair<Tally, Pair<Queue, Board>>>(&rt, rt.alloc())
+    room_ends::<HouseMachine>(&rt)
 }
 
 #[test]
 fn a_draw_of_a_queue_takes_the_front(rt: HostRuntime) -> Result<(), Fail> {
-    draw_takes_the_front::<Queue>(&rt, rt.alloc())
+    draw_takes_the_front::<Queue>(&rt)
 }
 
 #[test]
 fn a_draw_of_a_pair_takes_the_front(rt: HostRuntime) -> Result<(), Fail> {
-    draw_takes_the_front::<Pair<Tally, Pair<Queue, Board>>>(&rt, rt.alloc())
+    draw_takes_the_front::<HouseMachine>(&rt)
 }
 
 #[test]
 fn a_draw_on_an_empty_queue_is_idle(rt: HostRuntime) -> Result<(), Fail> {
-    run::<Queue>(
-        &rt,
-        rt.alloc(),
-        &[
-            Act::Steps(DRAW, 0, 0, None),
-            Act::Reads(ORDER, 0, 0, Some(0)),
-            Act::TakesBack,
-            Act::Reads(ORDER, 0, 0, Some(0)),
-        ],
-    )
+    let mut queue = Trial::<Queue>::new(rt.alloc())?;
+    assert_eq!(rt; queue.step(draw())?, None);
+    assert_eq!(rt; queue.read(waiting()), Some(0));
+    queue.take_back()?;
+    assert_eq!(rt; queue.read(waiting()), Some(0));
+    Ok(())
 }
 
 #[test]
 fn a_draw_of_a_full_queue_is_taken_back(rt: HostRuntime) -> Result<(), Fail> {
-    run::<Queue>(
-        &rt,
-        rt.alloc(),
-        &[
-            Act::Steps(ORDER, 0, 3, Some(0)),
-            Act::Repeats(ORDER, 0, 4, 1023),
-            Act::Steps(DRAW, 0, 0, Some(3)),
-            Act::Reads(ORDER, 0, 0, Some(1023)),
-            Act::TakesBack,
-            Act::Reads(ORDER, 0, 0, Some(1024)),
-            Act::Reads(DRAW, 0, 0, Some(3)),
-            Act::Reads(DRAW, 0, 1023, Some(4)),
-        ],
-    )
+    let mut queue = Trial::<Queue>::new(rt.alloc())?;
+    assert_eq!(rt; queue.step(order(3))?, Some(0));
+    assert!(rt; queue.moves(order(4), 1023)?);
+    assert_eq!(rt; queue.step(draw())?, Some(3));
+    assert_eq!(rt; queue.read(waiting()), Some(1023));
+    queue.take_back()?;
+    assert_eq!(rt; queue.read(waiting()), Some(1024));
+    assert_eq!(rt; queue.read(job(0)), Some(3));
+    assert_eq!(rt; queue.read(job(1023)), Some(4));
+    Ok(())
 }
 
 #[test]
 fn no_job_is_read_past_the_last(rt: HostRuntime) -> Result<(), Fail> {
-    run::<Queue>(
-        &rt,
-        rt.alloc(),
-        &[
-            Act::Reads(DRAW, 0, 0, None),
-            Act::Steps(ORDER, 0, 5, Some(0)),
-            Act::Reads(DRAW, 0, 0, Some(5)),
-            Act::Reads(DRAW, 0, 1, None),
-            Act::Reads(DRAW, 0, 1023, None),
-        ],
-    )
+    let mut queue = Trial::<Queue>::new(rt.alloc())?;
+    assert_eq!(rt; queue.read(job(0)), None);
+    assert_eq!(rt; queue.step(order(5))?, Some(0));
+    assert_eq!(rt; queue.read(job(0)), Some(5));
+    assert_eq!(rt; queue.read(job(1)), None);
+    assert_eq!(rt; queue.read(job(1023)), None);
+    Ok(())
 }

@@ -1,44 +1,14 @@
-// What the tests of the machines share: facts of what a machine knows and answers, and runs of steps.
-use machines::{Counter, Machine, Note, Operation, Question};
-use std::alloc::Global;
-use std::process::Abort;
+// What the tests of the machines share: operations and questions in the words of the machines, a tally with other places, and
+// a trial of a machine.
+use machines::{Counter, Inset, Machine, Note, Operation, Question, Steps};
+use primitives::{CHANGE, DRAW, ORDER, SET, Tally};
+use std::alloc::{AllocError, Global};
 use std::test::Fail;
 
-// What a kind of machine knows and answers. An operation is written by its code, place and amount, and a question by its
-// code, place and index.
-#[derive(Clone, Copy)]
-pub enum Fact {
-    Known(u16, u16, i32),
-    Unknown(u16, u16, i32),
-    Answered(u16, u16, i32),
-    Unanswered(u16, u16, i32),
-}
+// A tally whose cells are at the places 64 to 127.
+pub(crate) type TallyAt64 = Inset<Tally, 64>;
 
-// What a test does to a machine and expects of it, written as in a fact.
-#[derive(Clone, Copy)]
-pub enum Act {
-    // The operation steps, and notes the number; none where the step is idle.
-    Steps(u16, u16, i32, Option<i32>),
-    // The operation steps so many times, and moves the machine each time.
-    Repeats(u16, u16, i32, usize),
-    // The last step that still stands is taken back.
-    TakesBack,
-    // The question reads the number, or none.
-    Reads(u16, u16, i32, Option<i64>),
-    // So many steps are counted, back and forward.
-    Counts(u32, u32),
-    // The counter begins again.
-    Begins,
-}
-
-// A machine in its counter, and its steps that still stand.
-#[derive(Drop)]
-struct Trial<M> {
-    counter: Counter<M>,
-    steps: Vec<(Operation, Note)>,
-}
-
-fn operation(code: u16, place: u16, amount: i32) -> Operation {
+pub(crate) fn operation(code: u16, place: u16, amount: i32) -> Operation {
     Operation {
         code,
         place,
@@ -46,96 +16,90 @@ fn operation(code: u16, place: u16, amount: i32) -> Operation {
     }
 }
 
-fn question(code: u16, place: u16, index: i32) -> Question {
+pub(crate) fn question(code: u16, place: u16, index: i32) -> Question {
     Question { code, place, index }
 }
 
+pub(crate) fn change(cell: u16, amount: i32) -> Operation {
+    operation(CHANGE, cell, amount)
+}
+
+pub(crate) fn order(job: i32) -> Operation {
+    operation(ORDER, 0, job)
+}
+
+pub(crate) fn draw() -> Operation {
+    operation(DRAW, 0, 0)
+}
+
+pub(crate) fn set(path: u16, status: i32) -> Operation {
+    operation(SET, path, status)
+}
+
+pub(crate) fn count(cell: u16) -> Question {
+    question(CHANGE, cell, 0)
+}
+
+pub(crate) fn waiting() -> Question {
+    question(ORDER, 0, 0)
+}
+
+pub(crate) fn job(index: i32) -> Question {
+    question(DRAW, 0, index)
+}
+
+pub(crate) fn status(path: u16) -> Question {
+    question(SET, path, 0)
+}
+
+// A machine in its counter, and its steps that still stand.
+#[derive(Drop)]
+pub struct Trial<M> {
+    counter: Counter<M>,
+    standing: Vec<(Operation, Note)>,
+}
+
 impl<M: Machine> Trial<M> {
-    fn step(&mut self, i: usize, operation: Operation) -> Result<Option<i32>, Fail> {
+    pub(crate) fn new(heap: Global) -> Result<Trial<M>, AllocError> {
+        Ok(Trial {
+            counter: Counter::new(heap)?,
+            standing: Vec::new(heap),
+        })
+    }
+
+    // What the step notes.
+    pub(crate) fn step(&mut self, operation: Operation) -> Result<Note, AllocError> {
         let note = self.counter.step(&operation);
-        if self.steps.push((operation, note)).is_err() {
-            return Err(Fail::new(format_args!("act {i}: no memory")));
-        }
+        self.standing.push((operation, note))?;
         Ok(note)
     }
 
-    fn repeat(
-        &mut self,
-        rt: &impl Abort,
-        i: usize,
-        operation: Operation,
-        times: usize,
-    ) -> Result<(), Fail> {
+    // Whether each of so many steps with the operation moves the machine; it stops at one that is idle.
+    pub(crate) fn moves(&mut self, operation: Operation, times: usize) -> Result<bool, AllocError> {
         for _ in 0..times {
-            let number = self.step(i, operation)?;
-            assert!(rt; number.is_some(), "act {i}");
+            if self.step(operation)?.is_none() {
+                return Ok(false);
+            }
         }
-        Ok(())
+        Ok(true)
     }
 
-    fn take_back(&mut self, i: usize) -> Result<(), Fail> {
-        let Some((operation, note)) = self.steps.pop() else {
-            return Err(Fail::new(format_args!("act {i}: no step stands")));
-        };
+    // Takes back the last step that still stands.
+    pub(crate) fn take_back(&mut self) -> Result<(), Fail> {
+        let (operation, note) = self.standing.pop().ok_or("no step stands")?;
         self.counter.take_back(&operation, note);
         Ok(())
     }
 
-    // Does the act of that index.
-    fn act(&mut self, rt: &impl Abort, i: usize, act: Act) -> Result<(), Fail> {
-        match act {
-            Act::Steps(code, place, amount, number) => {
-                let noted = self.step(i, operation(code, place, amount))?;
-                assert_eq!(rt; noted, number, "act {i}");
-                Ok(())
-            }
-            Act::Repeats(code, place, amount, times) => {
-                self.repeat(rt, i, operation(code, place, amount), times)
-            }
-            Act::TakesBack => self.take_back(i),
-            Act::Reads(code, place, index, number) => {
-                let read = self.counter.read(&question(code, place, index));
-                assert_eq!(rt; read, number, "act {i}");
-                Ok(())
-            }
-            Act::Counts(back, forward) => {
-                let steps = self.counter.steps();
-                assert_eq!(rt; (steps.back, steps.forward), (back, forward), "act {i}");
-                Ok(())
-            }
-            Act::Begins => {
-                self.counter.begin();
-                Ok(())
-            }
-        }
+    pub(crate) fn read(&self, question: Question) -> Option<i64> {
+        self.counter.read(&question)
     }
-}
 
-// Does the acts, from the first on, to a new machine in a counter.
-pub(crate) fn run<M: Machine>(rt: &impl Abort, heap: Global, acts: &[Act]) -> Result<(), Fail> {
-    let mut trial = Trial::<M> {
-        counter: Counter::new(heap)?,
-        steps: Vec::new(heap),
-    };
-    for (i, act) in acts.iter().enumerate() {
-        trial.act(rt, i, *act)?;
+    pub(crate) fn steps(&self) -> Steps {
+        self.counter.steps()
     }
-    Ok(())
-}
 
-fn is_true<M: Machine>(fact: Fact) -> bool {
-    match fact {
-        Fact::Known(code, place, amount) => M::knows(&operation(code, place, amount)),
-        Fact::Unknown(code, place, amount) => !M::knows(&operation(code, place, amount)),
-        Fact::Answered(code, place, index) => M::answers(&question(code, place, index)),
-        Fact::Unanswered(code, place, index) => !M::answers(&question(code, place, index)),
+    pub(crate) fn begin(&mut self) {
+        self.counter.begin();
     }
-}
-
-// Each fact holds of the machines of this kind.
-pub(crate) fn hold<M: Machine>(rt: &impl Abort, facts: &[Fact]) -> Result<(), Fail> {
-    for (i, fact) in facts.iter().enumerate() {
-        assert!(rt; is_true::<M>(*fact), "fact {i}");
-    }
-    Ok(())
 }

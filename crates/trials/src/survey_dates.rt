@@ -1,33 +1,24 @@
 // Which survey dates there are, their order and their bytes.
 use dates::{Date, SurveyDate};
-use std::cmp::Ordering;
 use std::process::Abort;
 use std::test::Fail;
 
 fn date(year: u16, month: u8, day: u8) -> Result<SurveyDate, Fail> {
-    match SurveyDate::new(year, month, day) {
-        Ok(date) => Ok(date),
-        Err(fault) => Err(Fail::new(fault)),
-    }
+    SurveyDate::new(year, month, day).map_err(Fail::new)
 }
 
 // Each date exists or not, as is written beside it.
-fn exist(rt: &impl Abort, dates: &[(u16, u8, u8, bool)]) -> Result<(), Fail> {
-    for (i, (year, month, day, exists)) in dates.iter().enumerate() {
-        assert_eq!(rt;
-            SurveyDate::new(*year, *month, *day).is_ok(),
-            *exists,
-            "date {i}"
-        );
+fn exist(rt: &impl Abort, dates: &[(u16, u8, u8, bool)]) {
+    for &(year, month, day, exists) in dates {
+        let found = SurveyDate::new(year, month, day);
+        assert_eq!(rt; found.is_ok(), exists, "{year}-{month}-{day}");
     }
-    Ok(())
 }
 
-fn are_of_no_date(rt: &impl Abort, forms: &[[u8; 4]]) -> Result<(), Fail> {
-    for (i, bytes) in forms.iter().enumerate() {
-        assert!(rt; SurveyDate::from_bytes(*bytes).is_err(), "form {i}");
+fn are_of_no_date(rt: &impl Abort, forms: &[[u8; 4]]) {
+    for bytes in forms {
+        assert!(rt; SurveyDate::from_bytes(*bytes).is_err(), "{bytes:?}");
     }
-    Ok(())
 }
 
 // Each date compares with each as their indexes do.
@@ -46,23 +37,18 @@ fn are_in_order(rt: &impl Abort, dates: &[(u16, u8, u8)]) -> Result<(), Fail> {
 fn has_bytes(rt: &impl Abort, year: u16, month: u8, day: u8, bytes: [u8; 4]) -> Result<(), Fail> {
     let date = date(year, month, day)?;
     assert_eq!(rt; date.to_bytes(), bytes);
-    match SurveyDate::from_bytes(bytes) {
-        Ok(again) => {
-            assert_eq!(rt; again.cmp(&date), Ordering::Equal);
-            Ok(())
-        },
-        Err(fault) => Err(Fail::new(fault)),
-    }
-}
-
-#[test]
-fn the_kind_is_2(rt: HostRuntime) -> Result<(), Fail> {
-    assert_eq!(rt; SurveyDate::kind(), 2);
+    let again = SurveyDate::from_bytes(bytes).map_err(Fail::new)?;
+    assert!(rt; again == date);
     Ok(())
 }
 
 #[test]
-fn the_years_are_1_to_9999(rt: HostRuntime) -> Result<(), Fail> {
+fn the_kind_is_2(rt: HostRuntime) {
+    assert_eq!(rt; SurveyDate::kind(), 2);
+}
+
+#[test]
+fn the_years_are_1_to_9999(rt: HostRuntime) {
     exist(
         &rt,
         &[
@@ -75,11 +61,11 @@ fn the_years_are_1_to_9999(rt: HostRuntime) -> Result<(), Fail> {
             (10000, 1, 1, false),
             (u16::MAX, 12, 31, false),
         ],
-    )
+    );
 }
 
 #[test]
-fn a_day_may_be_unknown_and_is_where_the_month_is(rt: HostRuntime) -> Result<(), Fail> {
+fn a_day_may_be_unknown_and_is_where_the_month_is(rt: HostRuntime) {
     exist(
         &rt,
         &[
@@ -88,11 +74,11 @@ fn a_day_may_be_unknown_and_is_where_the_month_is(rt: HostRuntime) -> Result<(),
             (1987, 0, 1, false),
             (1987, 0, 5, false),
         ],
-    )
+    );
 }
 
 #[test]
-fn the_months_end_at_12(rt: HostRuntime) -> Result<(), Fail> {
+fn the_months_end_at_12(rt: HostRuntime) {
     exist(
         &rt,
         &[
@@ -102,11 +88,11 @@ fn the_months_end_at_12(rt: HostRuntime) -> Result<(), Fail> {
             (1987, 13, 1, false),
             (1987, u8::MAX, 0, false),
         ],
-    )
+    );
 }
 
 #[test]
-fn a_month_ends_with_its_last_day(rt: HostRuntime) -> Result<(), Fail> {
+fn a_month_ends_with_its_last_day(rt: HostRuntime) {
     exist(
         &rt,
         &[
@@ -118,11 +104,11 @@ fn a_month_ends_with_its_last_day(rt: HostRuntime) -> Result<(), Fail> {
             (1987, 12, 32, false),
             (1987, 12, u8::MAX, false),
         ],
-    )
+    );
 }
 
 #[test]
-fn february_has_29_days_in_a_leap_year_alone(rt: HostRuntime) -> Result<(), Fail> {
+fn february_has_29_days_in_a_leap_year_alone(rt: HostRuntime) {
     exist(
         &rt,
         &[
@@ -135,7 +121,7 @@ fn february_has_29_days_in_a_leap_year_alone(rt: HostRuntime) -> Result<(), Fail
             (2000, 2, 29, true),
             (2001, 2, 29, false),
         ],
-    )
+    );
 }
 
 #[test]
@@ -164,7 +150,7 @@ fn the_year_comes_first_in_the_bytes_with_its_low_byte_first(rt: HostRuntime) ->
 }
 
 #[test]
-fn bytes_of_no_date_are_refused(rt: HostRuntime) -> Result<(), Fail> {
+fn bytes_of_no_date_are_refused(rt: HostRuntime) {
     // 1987-0-5, 1900-2-29, 0-1-1, 10000-1-1, and the largest bytes.
     are_of_no_date(
         &rt,
@@ -175,5 +161,5 @@ fn bytes_of_no_date_are_refused(rt: HostRuntime) -> Result<(), Fail> {
             [0x10, 0x27, 1, 1],
             [0xFF; 4],
         ],
-    )
+    );
 }
