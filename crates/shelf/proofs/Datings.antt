@@ -1,10 +1,11 @@
 -- The order of what bytes give.
-use Rattle.std.proofs.Common.{◌≡◌, ℕ, true, false, ◌∷◌, Ok, Err, sym, refl, ap, arith}
+use Rattle.std.proofs.Common.{◌≡◌, ℕ, ◌<◌, true, false, not, ◌∷◌, Ok, Err, sym, refl, ap, arith}
+use Rattle.std.proofs.lemmas.Bool.Decides.{nat_tests}
 use mathlib.Core.Bool.{false≢true}
 use Rattle.avl.specs.Book.{Order, book_order}
 use Rattle.avl.proofs.Orders.{order_sorted, order_holds}
 use Rattle.dates.specs.Model.{DateModel, Lawful}
-use Rattle.shelf.specs.Dating.{Dating, sooner}
+use Rattle.shelf.specs.Dating.{Dating, sooner, ahead}
 use Rattle.slots.specs.Chain.{Once}
 use Rattle.slots.proofs.Lists.{sorted_once}
 
@@ -31,6 +32,10 @@ module _ {D : Type 0} (dates : DateModel D) (law : Lawful dates) where
 
   abbrev pub by_dating : Order (Dating D)
   by_dating = record { earlier = sooner dates; one_way = one_way; equal = equal; transitive = transitive }
+
+  -- what a day is earlier than is behind the last place of the day
+  pub past_last : (day : D) (a : Dating D) (i : ℕ) → i < 65536 → sooner dates (Ok day) a ≡ not (ahead dates a i (Ok day) 65536)
+  past_last day a i small = grind (arith, nat_tests, one_way)
 
 pub order_once : {D : Type 0} (o : Order D) (date : ℕ → D) (n : ℕ) → Once (n ∷ book_order o.earlier date n)
 unfolding Once

@@ -1,20 +1,22 @@
 -- An insertion into slots is an insertion into the tree.
-use Rattle.std.proofs.Common.{◌≡◌, ℕ, ◌+◌, ◌-◌, ◌<◌, ◌≤◌, Bool, true, false, List, [], ◌∷◌, ◌++◌, length, Ok, sym, refl, ap, ◌∙◌, inr, append_assoc, arith, length-append}
+use Rattle.std.proofs.Common.{◌≡◌, ℕ, ◌+◌, ◌-◌, ◌<◌, ◌≤◌, Bool, true, false, not, List, [], ◌∷◌, ◌++◌, length, Ok, sym, refl, ap, ◌∙◌, inr, append_assoc, arith, length-append}
 use Rattle.std.proofs.lemmas.Bool.{cond_both}
 use Rattle.avl.specs.Tree.{Tree, leaf, node, inorder, size, balance, insert_by}
 use Rattle.avl.specs.Summary.{SummaryModel}
 use Rattle.avl.proofs.Rotations.{balance_keeps}
 use Rattle.avl.proofs.Balances.{insert_balances}
 use Rattle.avl.proofs.Depths.{size_is_length}
-use Rattle.dates.specs.Model.{DateModel}
+use Rattle.dates.specs.Model.{DateModel, Lawful}
 use Rattle.machines.specs.declared.operation.Operation.{Operation}
+use Rattle.slots.specs.declared.slot.Parts.{Parts}
 use Rattle.slots.specs.declared.slot.Slot.{Slot}
-use Rattle.slots.specs.Slots.{Entry, slot, Kept}
-use Rattle.shelf.specs.Dating.{sooner, dated_past}
+use Rattle.slots.specs.Slots.{Entry, slot, parts, Kept}
+use Rattle.shelf.specs.Dating.{sooner, ahead, dated_past}
 use Rattle.slots.specs.Chain.{Chained, Once, Tied, Makes}
 use Rattle.shelf.specs.Ways.{Inserts}
 use Rattle.slots.proofs.Lists.{in_left, in_right, once_left, once_right, once_apart, once_move}
 use Rattle.slots.proofs.Chains.{then_formed, then_tied, beside, read_entry}
+use Rattle.shelf.proofs.Datings.{past_last}
 
 -- where the new slot went
 record Split (n : ℕ) (old new : List ℕ) : Type 0 where
@@ -52,7 +54,7 @@ insert_size before n t =
     let is = size_is_length (insert_by before n t) in
     omega (arith, simp length-append at (ap length s.was), simp length-append at (ap length s.is))
 
-module _ {S D : Type 0} (model : SummaryModel S) (summed : Operation → S) (dates : DateModel D) (day : D) (old : List (Slot S)) (link n depth : ℕ) where
+module _ {S D : Type 0} (model : SummaryModel S) (summed : Operation → S) (dates : DateModel D) (law : Lawful dates) (day : D) (old : List (Slot S)) (link n depth : ℕ) where
   pub insert_leaf : (new : List (Slot S)) (root : ℕ) → length old ≤ link → Makes model summed node old new link n link root → Inserts model summed (dated_past dates day) old new link n depth root
   unfolding Chained Once insert_by
   insert_leaf new root past put es leaf tied h room once bal low few = put es leaf leaf tied h h room once (omega arith)
@@ -63,21 +65,21 @@ module _ {S D : Type 0} (model : SummaryModel S) (summed : Operation → S) (dat
   insert_none within none es leaf tied h room once bal low few = absurd (omega arith)
   insert_none within none es (node a i b) tied h room once bal low few = absurd (omega arith)
 
-  module _ (mid new : List (Slot S)) (side root : ℕ) (within : link < length old) (deep : 0 < depth) (at : Slot S) (read : at ≡ slot model old link) (kept : Kept model old mid) where
-    tested : (es : ℕ → Entry) (i : ℕ) → Tied model summed es old → link ≡ i → dated_past dates day es i ≡ sooner dates (Ok day) (dates.given at.date)
+  module _ (mid new : List (Slot S)) (side root : ℕ) (within : link < length old) (small : link < 65536) (deep : 0 < depth) (at : Slot S) (read : at ≡ slot model old link) (up : Parts) (is : up ≡ parts at link) (kept : Kept model old mid) where
+    tested : (es : ℕ → Entry) (i : ℕ) → Tied model summed es old → link ≡ i → dated_past dates day es i ≡ not (ahead dates (dates.given at.date) link (Ok day) 65536)
     tested es i tied e =
         let told = ap (λ e. e.date) (read_entry model summed es old link i at read e tied) in
-        sym (ap (λ bytes. sooner dates (Ok day) (dates.given bytes)) told)
+        sym (ap (λ bytes. sooner dates (Ok day) (dates.given bytes)) told) ∙ past_last dates law day (dates.given at.date) link small
 
-    pub insert_left : sooner dates (Ok day) (dates.given at.date) ≡ true → Inserts model summed (dated_past dates day) old mid at.left n (depth - 1) side → Makes model summed balance mid new side link at.right root → Inserts model summed (dated_past dates day) old new link n depth root
+    pub insert_left : ahead dates (dates.given at.date) link (Ok day) 65536 ≡ false → Inserts model summed (dated_past dates day) old mid up.left n (depth - 1) side → Makes model summed balance mid new side up.top up.right root → Inserts model summed (dated_past dates day) old new link n depth root
     unfolding Chained Once insert_by
-    insert_left earlier p q es leaf tied h room once bal low few = absurd (omega arith)
-    insert_left earlier p q es (node a i b) tied h room once bal low few =
+    insert_left later p q es leaf tied h room once bal low few = absurd (omega arith)
+    insert_left later p q es (node a i b) tied h room once bal low few =
         let before = dated_past dates day es in
         let long = kept.long in
-        let first = rw (read, h.0) at p in
-        let second = rw (read, h.0) at q in
-        let test : before i ≡ true = tested es i tied h.0 ∙ earlier in
+        let first = rw (is, read, h.0) at p in
+        let second = rw (is, read, h.0) at q in
+        let test : before i ≡ true = tested es i tied h.0 ∙ ap not later in
         let s = insert_splits before n a in
         let grown = insert_balances before n a bal.0 in
         let one_more = insert_size before n a in
@@ -88,15 +90,15 @@ module _ {S D : Type 0} (model : SummaryModel S) (summed : Operation → S) (dat
         let g = second es (insert_by before n a) b (then_tied model summed es old mid kept tied) x.chained hb (omega arith) apart (omega arith) in
         rw test (then_formed model summed es old mid new side root (insert_by before n a) (balance (insert_by before n a) i b) (λ k w. rw balance_keeps (in_left k (inorder (insert_by before n a)) (i ∷ inorder b) w)) x g)
 
-    pub insert_right : sooner dates (Ok day) (dates.given at.date) ≡ false → Inserts model summed (dated_past dates day) old mid at.right n (depth - 1) side → Makes model summed balance mid new at.left link side root → Inserts model summed (dated_past dates day) old new link n depth root
+    pub insert_right : ahead dates (dates.given at.date) link (Ok day) 65536 ≡ true → Inserts model summed (dated_past dates day) old mid up.right n (depth - 1) side → Makes model summed balance mid new up.left up.top side root → Inserts model summed (dated_past dates day) old new link n depth root
     unfolding Chained Once insert_by
-    insert_right later p q es leaf tied h room once bal low few = absurd (omega arith)
-    insert_right later p q es (node a i b) tied h room once bal low few =
+    insert_right earlier p q es leaf tied h room once bal low few = absurd (omega arith)
+    insert_right earlier p q es (node a i b) tied h room once bal low few =
         let before = dated_past dates day es in
         let long = kept.long in
-        let first = rw (read, h.0) at p in
-        let second = rw (read, h.0) at q in
-        let test : before i ≡ false = tested es i tied h.0 ∙ later in
+        let first = rw (is, read, h.0) at p in
+        let second = rw (is, read, h.0) at q in
+        let test : before i ≡ false = tested es i tied h.0 ∙ ap not earlier in
         let s = insert_splits before n b in
         let grown = insert_balances before n b bal.1 in
         let one_more = insert_size before n b in

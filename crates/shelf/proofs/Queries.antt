@@ -22,7 +22,7 @@ use Rattle.slots.specs.Chain.{standing, own}
 use Rattle.shelf.specs.Sound.{Sound}
 use Rattle.shelf.specs.Ways.{Read, Counts, Selects, Joins, behind}
 use Rattle.shelf.specs.Reading.{standing_entries, standing_up_to, standing_before, joined_summaries}
-use Rattle.shelf.proofs.Datings.{by_dating}
+use Rattle.shelf.proofs.Datings.{by_dating, past_last}
 use Rattle.slots.proofs.Measures.{own_light}
 use Rattle.shelf.proofs.Joining.{standing_joined}
 use Rattle.shelf.proofs.Readings.{kept_small}
@@ -47,10 +47,7 @@ module _ {D : Type 0} (dates : DateModel D) (law : Lawful dates) (day : D) (es :
 
   -- behind the last place of a day is what is dated past it
   last_place : (i : ℕ) → i < 65536 → not (behind dates day 65536 es i) ≡ not (dated_past dates day es i)
-  last_place i lt = place (dating dates es i) (Ok day)
-    where
-      place : (a e : Dating D) → not (not (ahead dates a i e 65536)) ≡ not (sooner dates e a)
-      place a e = grind (arith, nat_tests, (by_dating dates law).one_way)
+  last_place i lt = ap not (sym (past_last dates law day (dating dates es i) i lt))
 
   pub front_up_to : (n : ℕ) → n ≤ 1024 → front (behind dates day 65536 es) (ordered dates es n) ≡ up_to dates day es n
   front_up_to n few =

@@ -7,8 +7,9 @@ use Rattle.avl.specs.Summary.{SummaryModel}
 use Rattle.avl.proofs.Ways.{in_cut, test_holds, test_fails, left_before, right_after}
 use Rattle.dates.specs.Model.{DateModel, Lawful}
 use Rattle.machines.specs.declared.operation.Operation.{Operation}
+use Rattle.slots.specs.declared.slot.Parts.{Parts}
 use Rattle.slots.specs.declared.slot.Slot.{Slot}
-use Rattle.slots.specs.Slots.{Entry, slot, Kept}
+use Rattle.slots.specs.Slots.{Entry, slot, parts, Kept}
 use Rattle.shelf.specs.Dating.{sooner, dating, ahead}
 use Rattle.slots.specs.Chain.{Chained, Once, Formed, Tied, Makes}
 use Rattle.shelf.specs.Ways.{Refreshes}
@@ -33,17 +34,17 @@ module _ {S D : Type 0} (model : SummaryModel S) (summed : Operation → S) (dat
       rechain model summed es changed slots side t
       (λ k w. (ap (λ e. e.standing) (same k (λ e. out (subst (λ k. In k (inorder t)) e w))), ap (λ e. e.operation) (same k (λ e. out (subst (λ k. In k (inorder t)) e w)))))
 
-  module _ (new : List (Slot S)) (root : ℕ) (inside : link < length old) (at : Slot S) (read : at ≡ slot model old link) where
+  module _ (new : List (Slot S)) (root : ℕ) (inside : link < length old) (at : Slot S) (read : at ≡ slot model old link) (up : Parts) (is : up ≡ parts at link) where
     -- the root stays
     stays : (es : ℕ → Entry) (was : List (Slot S)) (a : Tree) (j : ℕ) (b : Tree) → link ≡ j → Formed model summed es was new root (node a j b) → Formed model summed es was new link (node a j b)
     unfolding Chained
     stays es was a j b e h = subst (λ r. Formed model summed es was new r (node a j b)) (h.chained.0 ∙ sym e) h
 
-    pub refresh_here : link ≡ i → Makes model summed node old new at.left link at.right root → Refreshes model summed dates day old new link i depth
+    pub refresh_here : link ≡ i → Makes model summed node old new up.left up.top up.right root → Refreshes model summed dates day old new link i depth
     unfolding Chained Once
     refresh_here found p es changed leaf tied h same dated sorted within deep few = absurd (omega arith)
     refresh_here found p es changed (node a j b) tied h same dated sorted within deep few =
-        let first = rw (read, h.0) at p in
+        let first = rw (is, read, h.0) at p in
         let once = sorted_once (by_dating dates law) (dating dates changed) (inorder a ++ j ∷ inorder b) sorted in
         let here : i ≡ j = sym found ∙ h.0 in
         let ha = aside es changed old (slot model old j).left a same (λ w. once_apart i (inorder a) (j ∷ inorder b) once w (inl here)) h.2 in
@@ -57,13 +58,13 @@ module _ {S D : Type 0} (model : SummaryModel S) (summed : Operation → S) (dat
         ap (λ x. ahead dates (dating dates es j) j x i) dated ∙ sym (ap (λ bytes. ahead dates (dates.given bytes) link (Ok day) i) told ∙ ap (λ k. ahead dates (dating dates es j) k (Ok day) i) e)
 
     module _ (mid : List (Slot S)) (kept : Kept model old mid) (deeper : 0 < depth) (other : link ≡ i → ⊥) where
-      pub refresh_right : ahead dates (dates.given at.date) link (Ok day) i ≡ true → Refreshes model summed dates day old mid at.right i (depth - 1) → Makes model summed node mid new at.left link at.right root → Refreshes model summed dates day old new link i depth
+      pub refresh_right : ahead dates (dates.given at.date) link (Ok day) i ≡ true → Refreshes model summed dates day old mid up.right i (depth - 1) → Makes model summed node mid new up.left up.top up.right root → Refreshes model summed dates day old new link i depth
       unfolding Chained Once
       refresh_right test p q es changed leaf tied h same dated sorted within deep few = absurd (omega arith)
       refresh_right test p q es changed (node a j b) tied h same dated sorted within deep few =
-          let first = rw (read, h.0) at p in
+          let first = rw (is, read, h.0) at p in
           let long = kept.long in
-          let second = rw (read, h.0) at q in
+          let second = rw (is, read, h.0) at q in
           let once = sorted_once (by_dating dates law) (dating dates changed) (inorder a ++ j ∷ inorder b) sorted in
           let found : In i (inorder b) =
           ⊎_elim (λ e. absurd (other (h.0 ∙ sym e)))
@@ -77,13 +78,13 @@ module _ {S D : Type 0} (model : SummaryModel S) (summed : Operation → S) (dat
           let g = second changed a b (then_tied model summed changed old mid kept tied) beside_a x.chained (omega arith) once (omega arith) in
           then_formed model summed changed old mid new (slot model old j).right link b (node a j b) (λ k w. in_right k (inorder a) (j ∷ inorder b) (inr w)) x (stays changed mid a j b h.0 g)
 
-      pub refresh_left : ahead dates (dates.given at.date) link (Ok day) i ≡ false → Refreshes model summed dates day old mid at.left i (depth - 1) → Makes model summed node mid new at.left link at.right root → Refreshes model summed dates day old new link i depth
+      pub refresh_left : ahead dates (dates.given at.date) link (Ok day) i ≡ false → Refreshes model summed dates day old mid up.left i (depth - 1) → Makes model summed node mid new up.left up.top up.right root → Refreshes model summed dates day old new link i depth
       unfolding Chained Once
       refresh_left test p q es changed leaf tied h same dated sorted within deep few = absurd (omega arith)
       refresh_left test p q es changed (node a j b) tied h same dated sorted within deep few =
-          let first = rw (read, h.0) at p in
+          let first = rw (is, read, h.0) at p in
           let long = kept.long in
-          let second = rw (read, h.0) at q in
+          let second = rw (is, read, h.0) at q in
           let once = sorted_once (by_dating dates law) (dating dates changed) (inorder a ++ j ∷ inorder b) sorted in
           let found : In i (inorder a) =
           ⊎_elim (λ e. absurd (other (h.0 ∙ sym e)))

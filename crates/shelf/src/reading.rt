@@ -3,25 +3,16 @@ ghost use Rattle.std.specs.Prelude.{◌≡◌, ◌≤◌, length};
 ghost use Rattle.shelf.specs.Reading.{CountsUpTo, CountsBefore, JoinsUpTo, ReadsUpTo, Finds};
 ghost use Rattle.shelf.specs.Ways.{Counts, Joins, Selects};
 
-use crate::dating::is_ahead;
+use crate::dating::Place;
 use avl::most_levels;
 use dates::Date;
 use slots::Slot;
-use slots::figures::{count_at, count_over, joined_at, joined_over};
+use slots::figures::{count_over, joined_over, slot_at};
 use watches::{Summary, Watch};
 
-// A number above that of every slot: its place is behind all entries of its date.
-const LAST: u32 = 65_536;
-
-// The standing entries in front of the place of entry `number` of this date.
-fn count_ahead<D: Date, S: Summary>(
-    shelf: &[Slot<S>],
-    link: u16,
-    date: &D,
-    number: u32,
-    depth: u8,
-) -> u16
-    ensures counts { Counts S.Summary.model D.Date.model date.now number shelf.now link depth result }
+// The standing entries in front of a place.
+fn count_ahead<D: Date, S: Summary>(shelf: &[Slot<S>], link: u16, place: Place<D>, depth: u8) -> u16
+    ensures counts { Counts S.Summary.model D.Date.model place.date place.number shelf.now link depth result }
 {
     let Some(node) = shelf.get(link as usize) else {
         return 0;
@@ -29,11 +20,11 @@ fn count_ahead<D: Date, S: Summary>(
     if depth == 0 {
         return 0;
     }
-    if is_ahead(node.date, link, date, number) {
-        let rest = count_ahead(shelf, node.right, date, number, depth - 1);
-        count_over(count_at(shelf, node.left), node.standing, rest)
+    if place.has_ahead(node.date, link) {
+        let rest = count_ahead(shelf, node.right, place, depth - 1);
+        count_over(slot_at(shelf, node.left).count, node.standing, rest)
     } else {
-        count_ahead(shelf, node.left, date, number, depth - 1)
+        count_ahead(shelf, node.left, place, depth - 1)
     }
 }
 
@@ -41,7 +32,7 @@ fn count_ahead<D: Date, S: Summary>(
 pub fn count_up_to<D: Date, S: Summary>(shelf: &[Slot<S>], root: u16, date: &D) -> u16
     ensures counted { CountsUpTo D.Date.model S.Summary.model shelf.now root date.now result }
 {
-    count_ahead(shelf, root, date, LAST, most_levels())
+    count_ahead(shelf, root, Place::behind(*date), most_levels())
 }
 
 // How many standing entries are in front of the entry in slot `i` in book order; 0 where there is no such slot.
@@ -55,19 +46,18 @@ pub fn count_before<D: Date, S: Summary>(shelf: &[Slot<S>], root: u16, i: u16) -
     let Ok(date) = D::from_bytes(node.date) else {
         return 0;
     };
-    count_ahead(shelf, root, &date, i as u32, most_levels())
+    count_ahead(shelf, root, Place::of(date, i), most_levels())
 }
 
-// The joined summaries of the entries in front of the place of entry `number` of this date.
+// The joined summaries of the entries in front of a place.
 fn joined_ahead<D: Date, W: Watch>(
     shelf: &[Slot<W::Summary>],
     link: u16,
-    date: &D,
-    number: u32,
+    place: Place<D>,
     watch: &W,
     depth: u8,
 ) -> W::Summary
-    ensures joins { Joins W.Summary.Summary.model (W.Watch.summed watch.now) D.Date.model date.now number shelf.now link depth result }
+    ensures joins { Joins W.Summary.Summary.model (W.Watch.summed watch.now) D.Date.model place.date place.number shelf.now link depth result }
 {
     let Some(node) = shelf.get(link as usize) else {
         return W::Summary::unit();
@@ -75,11 +65,12 @@ fn joined_ahead<D: Date, W: Watch>(
     if depth == 0 {
         return W::Summary::unit();
     }
-    if is_ahead(node.date, link, date, number) {
-        let rest = joined_ahead(shelf, node.right, date, number, watch, depth - 1);
-        joined_over(joined_at(shelf, node.left), node.contribution(watch), rest)
+    if place.has_ahead(node.date, link) {
+        let rest = joined_ahead(shelf, node.right, place, watch, depth - 1);
+        let left = slot_at(shelf, node.left);
+        joined_over(left.joined, node.contribution(watch), rest)
     } else {
-        joined_ahead(shelf, node.left, date, number, watch, depth - 1)
+        joined_ahead(shelf, node.left, place, watch, depth - 1)
     }
 }
 
@@ -92,7 +83,7 @@ pub fn joined_up_to<D: Date, W: Watch>(
 ) -> W::Summary
     ensures joined { JoinsUpTo D.Date.model W.Summary.Summary.model shelf.now root (W.Watch.summed watch.now) date.now result }
 {
-    joined_ahead(shelf, root, date, LAST, watch, most_levels())
+    joined_ahead(shelf, root, Place::behind(*date), watch, most_levels())
 }
 
 // What the watched machine would read after the standing entries dated no later than a date, found without a step.
@@ -111,21 +102,17 @@ pub fn figure_up_to<D: Date, W: Watch>(
 fn find_at<S: Summary>(shelf: &[Slot<S>], link: u16, k: u16, depth: u8) -> Option<u16>
     ensures selects { Selects S.Summary.model shelf.now link k depth result }
 {
-    let Some(node) = shelf.get(link as usize) else {
-        return None;
-    };
-    if depth == 0 {
-        return None;
-    }
-    let before = count_at(shelf, node.left);
+    let node = shelf.get(link as usize)?;
+    let depth = depth.checked_sub(1)?;
+    let before = slot_at(shelf, node.left).count;
     if k < before {
-        find_at(shelf, node.left, k, depth - 1)
+        find_at(shelf, node.left, k, depth)
     } else if !node.standing {
-        find_at(shelf, node.right, k - before, depth - 1)
+        find_at(shelf, node.right, k - before, depth)
     } else if k == before {
         Some(link)
     } else {
-        find_at(shelf, node.right, k - before - 1, depth - 1)
+        find_at(shelf, node.right, k - before - 1, depth)
     }
 }
 

@@ -9,12 +9,12 @@ ghost use Rattle.shelf.specs.Dating.{dated_past};
 ghost use Rattle.shelf.specs.Sound.{Sound};
 ghost use Rattle.shelf.specs.Ways.{Inserts, Refreshes};
 
-use crate::dating::{is_ahead, is_sooner};
+use crate::dating::Place;
 use avl::most_levels;
 use dates::Date;
 use machines::{Note, Operation};
-use slots::Slot;
 use slots::tree::{put, rebalance};
+use slots::{Parts, Slot};
 use watches::{Summary, Watch};
 
 // The most entries of a book.
@@ -41,18 +41,23 @@ fn insert<D: Date, W: Watch>(
     ensures inserts { Inserts W.Summary.Summary.model (W.Watch.summed watch.now) (dated_past D.Date.model date.now) shelf.old shelf.new link n depth result }
 {
     let Some(node) = shelf.get(link as usize) else {
-        return put(shelf, link, n, link, watch);
+        let alone = Parts {
+            left: link,
+            top: n,
+            right: link,
+        };
+        return put(shelf, alone, watch);
     };
     if depth == 0 {
         return link;
     }
-    let (left, right) = (node.left, node.right);
-    if is_sooner(date, node.date) {
-        let left = insert(shelf, left, n, date, watch, depth - 1);
-        rebalance(shelf, left, link, right, watch)
+    let parts = node.parts(link);
+    if Place::behind(*date).has_ahead(node.date, link) {
+        let right = insert(shelf, parts.right, n, date, watch, depth - 1);
+        rebalance(shelf, Parts { right, ..parts }, watch)
     } else {
-        let right = insert(shelf, right, n, date, watch, depth - 1);
-        rebalance(shelf, left, link, right, watch)
+        let left = insert(shelf, parts.left, n, date, watch, depth - 1);
+        rebalance(shelf, Parts { left, ..parts }, watch)
     }
 }
 
@@ -80,17 +85,16 @@ pub fn add<D: Date, W: Watch>(
     Some(insert(shelf, root, n, date, watch, most_levels()))
 }
 
-// Makes anew the figures of all slots on the way down to slot `i` of this date, whose entry has changed.
+// Makes anew the figures of all slots on the way down to the entry at a place, which has changed.
 fn refresh<D: Date, W: Watch>(
     shelf: &mut [Slot<W::Summary>],
     link: u16,
-    i: u16,
-    date: &D,
+    place: Place<D>,
     watch: &W,
     depth: u8,
 )
     ensures kept { Kept W.Summary.Summary.model shelf.old shelf.new }
-    ensures refreshes { Refreshes W.Summary.Summary.model (W.Watch.summed watch.now) D.Date.model date.now shelf.old shelf.new link i depth }
+    ensures refreshes { Refreshes W.Summary.Summary.model (W.Watch.summed watch.now) D.Date.model place.date shelf.old shelf.new link place.number depth }
 {
     let Some(node) = shelf.get(link as usize) else {
         return;
@@ -98,16 +102,16 @@ fn refresh<D: Date, W: Watch>(
     if depth == 0 {
         return;
     }
-    let (left, right) = (node.left, node.right);
-    if link == i {
-        put(shelf, left, link, right, watch);
-    } else if is_ahead(node.date, link, date, i as u32) {
-        refresh(shelf, right, i, date, watch, depth - 1);
-        put(shelf, left, link, right, watch);
-    } else {
-        refresh(shelf, left, i, date, watch, depth - 1);
-        put(shelf, left, link, right, watch);
+    let parts = node.parts(link);
+    if u32::from(link) != place.number {
+        let side = if place.has_ahead(node.date, link) {
+            parts.right
+        } else {
+            parts.left
+        };
+        refresh(shelf, side, place, watch, depth - 1);
     }
+    put(shelf, parts, watch);
 }
 
 // Marks the entry in slot `i` as voided, and takes it out of the figures of all slots above it.
@@ -125,7 +129,7 @@ pub fn void<D: Date, W: Watch>(shelf: &mut [Slot<W::Summary>], root: u16, i: u16
     let Ok(date) = D::from_bytes(bytes) else {
         return;
     };
-    refresh(shelf, root, i, &date, watch, most_levels());
+    refresh(shelf, root, Place::of(date, i), watch, most_levels());
 }
 
 // Keeps what the last step with the operation in slot `i` gave.

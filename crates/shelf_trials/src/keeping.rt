@@ -4,7 +4,7 @@ use crate::entries::{cell, change, day, fill_days};
 use dates::DayNumber;
 use shelf::{add, set_note, void};
 use slots::Slot;
-use slots::figures::{count_at, level_at};
+use slots::figures::slot_at;
 use std::test::Fail;
 use watches::{CellWatch, Sum};
 
@@ -14,7 +14,7 @@ fn the_1_025th_entry_is_refused_though_there_is_a_slot(rt: HostRuntime) -> Resul
     let mut shelf = [Slot::blank(); 1_025];
     let root = fill_days(&mut shelf, &[1; 1_024], &watch)?;
     assert_eq!(rt;
-        (level_at(&shelf, root), count_at(&shelf, root)),
+        (slot_at(&shelf, root).level, slot_at(&shelf, root).count),
         (11, 1_024)
     );
     let before = shelf;
@@ -61,7 +61,7 @@ fn voiding_again_changes_nothing_more(rt: HostRuntime) -> Result<(), Fail> {
     let before = shelf;
     void::<DayNumber, CellWatch>(&mut shelf, root, 1, &watch);
     all_is_kept(&rt, &before, &shelf)?;
-    assert_eq!(rt; count_at(&shelf, root), 2);
+    assert_eq!(rt; slot_at(&shelf, root).count, 2);
     Ok(())
 }
 
@@ -95,6 +95,9 @@ fn a_slot_without_an_entry_keeps_its_content(rt: HostRuntime) -> Result<(), Fail
     let mut shelf = [content; 4];
     let root = fill_days(&mut shelf, &[1, 3, 2], &watch)?;
     void::<DayNumber, CellWatch>(&mut shelf, root, 0, &watch);
-    assert_eq!(rt; (level_at(&shelf, root), count_at(&shelf, root)), (2, 2));
+    assert_eq!(rt;
+        (slot_at(&shelf, root).level, slot_at(&shelf, root).count),
+        (2, 2)
+    );
     all_is_kept(&rt, &[content], &shelf[3..])
 }

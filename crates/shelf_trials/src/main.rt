@@ -28,7 +28,7 @@ use orders::{Days, LAST_DAY, Order};
 use primitives::CHANGE;
 use shelf::{add, count_before, count_up_to, figure_up_to, find, no_root, void};
 use slots::Slot;
-use slots::figures::level_at;
+use slots::figures::slot_at;
 use std::io;
 use watches::{CellWatch, Sum};
 
@@ -66,7 +66,7 @@ fn print_line(
     watch: &CellWatch,
 ) -> io::Result<()> {
     let last_day = DayNumber::new(LAST_DAY);
-    let levels = level_at(shelf, root);
+    let levels = slot_at(shelf, root).level;
     let standing = count_up_to(shelf, root, &last_day);
     let sum = figure_up_to(shelf, root, &last_day, watch);
     let first = find::<DayNumber, Sum>(shelf, root, 0).unwrap_or(NONE);

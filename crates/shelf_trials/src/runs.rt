@@ -4,7 +4,7 @@ use dates::DayNumber;
 use machines::{Counter, Operation};
 use shelf::{add, count_before, count_up_to, figure_up_to, find, no_root, void};
 use slots::Slot;
-use slots::figures::level_at;
+use slots::figures::slot_at;
 use std::alloc::Global;
 use std::process::Abort;
 use std::test::Fail;
@@ -114,7 +114,7 @@ fn expect<W: Watch>(
         }
         Act::Links(slot, left, right, levels) => {
             assert!(rt; has_links(shelf, slot, left, right), "act {i}");
-            assert_eq!(rt; level_at(shelf, slot), levels, "act {i}");
+            assert_eq!(rt; slot_at(shelf, slot).level, levels, "act {i}");
             Ok(())
         }
         Act::Enters(_, _, _, _) | Act::Voids(_) => Ok(()),

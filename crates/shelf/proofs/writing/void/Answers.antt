@@ -1,22 +1,10 @@
-use Rattle.std.proofs.Common.{sym, refl, ap, ◌∙◌, subst, arith}
+use Rattle.std.proofs.Common.{sym, ap, ◌∙◌, subst, arith}
 use Rattle.std.proofs.lemmas.List.{get_or_read}
 use Rattle.slots.specs.Slots.{blank, entry, placement}
 use Rattle.slots.proofs.Chains.{all_kept}
 use Rattle.shelf.specs.Changes.{Entered, voided}
-use Rattle.shelf.proofs.Sounds.{entered_after, inside, voids}
+use Rattle.shelf.proofs.Sounds.{entered_after, voids}
 use Rattle.shelf.proofs.writing.void.Goals as goal
-
-pub returns-in_default : goal.returns-in_default
-returns-in_default g c = record {
-  voids = record {
-    refused = λ past. refl;
-    entered = λ within. let past = c.in_default.ensures.lookup.3 in absurd (omega arith);
-    settled = λ n sound lt.
-        let past = c.in_default.ensures.lookup.3 in
-        let within = inside g.W.Summary.Summary.model (g.W.Watch.summed c.args.watch.now) g.D.Date.model g.met.D.Date.lawful c.args.shelf.now c.args.root n sound c.args.i lt in
-        absurd (omega arith);
-  };
-}
 
 -- the bytes of the entry are no date, so the shelf was not sound
 pub returns-in_default-from_bytes : goal.returns-in_default-from_bytes
@@ -51,6 +39,6 @@ returns g c =
         entered = λ _. subst (Entered model shelf _ i) (ap (λ s. voided (entry s)) read) (entered_after model shelf i _ _ within c.refresh.ensures.kept);
         settled = λ n sound lt.
             voids model (g.W.Watch.summed c.args.watch.now) dates g.met.D.Date.lawful shelf c.args.root n sound i _ within (ap placement read) told lt _
-            (ap dates.given (sym told) ∙ sym c.from_bytes.ensures ∙ c.in-Ok.is) _ c.refresh.ensures.kept (rw c.most_levels.ensures.is at c.refresh.ensures.refreshes);
+            (ap dates.given (sym told) ∙ sym c.from_bytes.ensures ∙ c.in-Ok.is) _ c.refresh.ensures.kept (rw (c.of.ensures, c.most_levels.ensures.is) at c.refresh.ensures.refreshes);
       };
     }
