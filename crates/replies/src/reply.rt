@@ -59,9 +59,10 @@ impl fmt::Display for Totals {
     ghost output = { λ totals. Some (totals_text totals) };
 
     fn fmt<W: fmt::Write>(&self, f: &mut fmt::Formatter<W>) -> fmt::Result {
-        let calls = self.calls;
-        let accepted = self.accepted;
-        let refused = self.refused;
-        write!(f, "{calls} calls: {accepted} accepted, {refused} refused")
+        write!(
+            f,
+            "{} calls: {} accepted, {} refused",
+            self.calls, self.accepted, self.refused,
+        )
     }
 }

@@ -16,12 +16,10 @@ fn print_replies(heap: Global, replies: &[Reply]) -> Result<String, AllocError>
 {
     let mut text = String::new(heap);
     for reply in replies {
-        let line = format!(in heap; "{reply}\n")?;
-        text.push_str(line.as_str())?;
+        writeln!(text, "{reply}")?;
     }
     let totals = count(replies);
-    let line = format!(in heap; "{totals}\n")?;
-    text.push_str(line.as_str())?;
+    writeln!(text, "{totals}")?;
     Ok(text)
 }
 

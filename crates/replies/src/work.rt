@@ -49,18 +49,10 @@ pub fn work_off<D: Date, M: Machine>(
 pub fn count(replies: &[Reply]) -> Totals
     ensures { result ≡ totals replies.now }
 {
-    let mut accepted = 0;
-    let mut refused = 0;
-    for reply in replies {
-        if reply.answer.is_ok() {
-            accepted += 1;
-        } else {
-            refused += 1;
-        }
-    }
+    let accepted = replies.iter().filter(|reply| reply.answer.is_ok()).count();
     Totals {
         calls: replies.len(),
         accepted,
-        refused,
+        refused: replies.len() - accepted,
     }
 }

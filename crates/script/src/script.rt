@@ -69,9 +69,8 @@ fn read_head(heap: Global, lines: &[&str]) -> Result<(Kind, usize), ScriptFault>
     for (i, line) in lines.iter().enumerate() {
         let number = i + 1;
         let words = words_of(heap, line)?;
-        let setting = read_setting(words.as_slice()).map_err(|reason| ScriptFault::BadLine(
-            number, reason,
-        ))?;
+        let words = words.as_slice();
+        let setting = read_setting(words).map_err(|reason| ScriptFault::BadLine(number, reason))?;
         match setting {
             Setting::Blank => {}
             Setting::Named(named) => kind = named,
@@ -103,9 +102,8 @@ fn read_calls<D: WrittenDate>(
     for (i, line) in lines.iter().enumerate().skip(from) {
         let number = i + 1;
         let words = words_of(heap, line)?;
-        let call = read_line(words.as_slice()).map_err(|reason| ScriptFault::BadLine(
-            number, reason,
-        ))?;
+        let words = words.as_slice();
+        let call = read_line(words).map_err(|reason| ScriptFault::BadLine(number, reason))?;
         if let Some(call) = call {
             found.push(Line { number, call })?;
         }

@@ -18,7 +18,7 @@ returns-in_err-call g c =
     let line = c.in-Some.line.now in
     let written = g.D.WrittenDate.written in
     let place = at_turn lines c.args.from c.into_iter-i-iterator.result (cc) (cc) (cc) c.loop-i.yielded c.loop-i.i-iterator c.loop-i.yielded_by c.next.result c.next.new.self c.next.ensures.steps c.in-Some.i c.in-Some.line c.in-Some.is in
-    let read = words_at_line (line_call written) (c.in-Some.i + 1) line.now c.as_slice.result.now c.read_line.result c.map_err.result (ap spelled c.as_slice.ensures.value ∙ c.in_ok-words.ensures) c.read_line.ensures (search rules) in
+    let read = words_at_line (line_call written) (c.in-Some.i + 1) line.now c.as_slice-words.result.now c.read_line.result c.map_err.result (ap spelled c.as_slice-words.ensures.value ∙ c.in_ok-words.ensures) c.read_line.ensures (search rules) in
     let told : at_line (j + 1) (line_call written (words (get_or lines j line).now)) ≡ c.map_err.result = (λ k. at_line (sym place.1 k + 1) (line_call written (words (sym place.2 k).now))) ∙ sym read in
     let p = err_from_is_err_and c.from_residual-in_err-call.result c.from_residual-in_err-call.ensures.1 in
     stopped vec_items _ _ _ _ _ (p.1 ∙ ap Err p.2) (failing _ _ (told ∙ c.in_err-call.was)) (c.loop-i.invariant ∙ calls_more lines j line place.0 written (vec_items c.loop-i.found))
@@ -31,7 +31,7 @@ loop-i-preserved g c =
     let written = g.D.WrittenDate.written in
     let found = vec_items c.loop-i.found in
     let place = at_turn lines c.args.from c.into_iter-i-iterator.result (cc) (cc) (cc) c.loop-i.yielded c.loop-i.i-iterator c.loop-i.yielded_by c.next.result c.next.new.self c.next.ensures.steps c.in-Some.i c.in-Some.line c.in-Some.is in
-    let read = words_at_line (line_call written) (c.in-Some.i + 1) line.now c.as_slice.result.now c.read_line.result c.map_err.result (ap spelled c.as_slice.ensures.value ∙ c.in_ok-words.ensures) c.read_line.ensures (search rules) in
+    let read = words_at_line (line_call written) (c.in-Some.i + 1) line.now c.as_slice-words.result.now c.read_line.result c.map_err.result (ap spelled c.as_slice-words.ensures.value ∙ c.in_ok-words.ensures) c.read_line.ensures (search rules) in
     let told : at_line (j + 1) (line_call written (words (get_or lines j line).now)) ≡ c.map_err.result = (λ k. at_line (sym place.1 k + 1) (line_call written (words (sym place.2 k).now))) ∙ sym read in
     let longer : c.args.from + length (c.loop-i.yielded ++ ((c.in-Some.i, c.in-Some.line) ∷ [])) ≡ j + 1 = omega (arith, length-append c.loop-i.yielded ((c.in-Some.i, c.in-Some.line) ∷ [])) in
     subst (λ n. calls written c.args.from (drop c.args.from (spelled lines)) ≡ then (calls written n (spelled (drop n lines))) (λ rest. Ok (vec_items c.match-call.found ++ rest))) (sym longer) (elim c.match-call.branch [
