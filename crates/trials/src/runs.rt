@@ -95,8 +95,10 @@ impl<M: Machine> Trial<M> {
         self.counter.read(&question)
     }
 
-    pub(crate) fn steps(&self) -> Steps {
-        self.counter.steps()
+    // The steps counted: back, then forward.
+    pub(crate) fn steps(&self) -> (u32, u32) {
+        let Steps { back, forward } = self.counter.steps();
+        (back, forward)
     }
 
     pub(crate) fn begin(&mut self) {
