@@ -7,7 +7,7 @@ use dates::Date;
 
 // The place of entry `number` of a date in book order. A number above that of every slot makes it the place behind all
 // entries of the date.
-#[derive(Clone, Copy)]
+#[derive(Clone, Copy, PartialEq, Eq, PartialOrd, Ord)]
 pub(crate) struct Place<D> {
     pub(crate) date: D,
     pub(crate) number: u32,
@@ -38,10 +38,6 @@ impl<D: Date> Place<D> {
     pub(crate) fn has_ahead(&self, bytes: [u8; 4], i: u16) -> bool
         ensures { result ≡ ahead D.Date.model (D.Date.model.given bytes) i (Ok self.now.date) self.now.number }
     {
-        D::from_bytes(bytes).map_or(true, |date| {
-            date.cmp(&self.date)
-                .then(u32::from(i).cmp(&self.number))
-                .is_lt()
-        })
+        D::from_bytes(bytes).map_or(true, |date| Place::of(date, i) < *self)
     }
 }

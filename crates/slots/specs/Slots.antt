@@ -1,9 +1,8 @@
 -- A slot's two parts: its entry, and its place in the tree.
 use Rattle.std.specs.Prelude.{◌≡◌, ℕ, ◌+◌, min, Bool, false, cond, List, [], ◌∷◌, length, pos, None, slice_index_or}
 use Rattle.avl.specs.Summary.{SummaryModel}
+use Rattle.machines.specs.Model.{Note}
 use Rattle.machines.specs.declared.operation.Operation.{Operation}
-use Rattle.machines.specs.declared.operation.Note.{Note}
-use Rattle.machines.specs.declared.operation.Note.TheVariants.{Idle}
 use Rattle.slots.specs.declared.slot.Parts.{Parts}
 use Rattle.slots.specs.declared.slot.Slot.{Slot}
 
