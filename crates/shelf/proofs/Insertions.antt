@@ -1,5 +1,5 @@
 -- An insertion into slots is an insertion into the tree.
-use Rattle.std.proofs.Common.{◌≡◌, ℕ, ◌+◌, ◌-◌, ◌<◌, ◌≤◌, Bool, true, false, not, List, [], ◌∷◌, ◌++◌, length, Ok, sym, refl, ap, ◌∙◌, inr, append_assoc, arith, length-append}
+use Rattle.std.proofs.Common.{◌≡◌, ℕ, ◌+◌, ◌-◌, ◌<◌, ◌≤◌, Bool, true, false, not, List, [], ◌∷◌, ◌++◌, length, Ok, refl, ap, ◌∙◌, inr, append_assoc, arith, length-append}
 use Rattle.std.proofs.lemmas.Bool.{cond_both}
 use Rattle.avl.specs.Tree.{Tree, leaf, node, inorder, size, balance, insert_by}
 use Rattle.avl.specs.Summary.{SummaryModel}
@@ -10,13 +10,13 @@ use Rattle.dates.specs.Model.{DateModel, Lawful}
 use Rattle.machines.specs.declared.operation.Operation.{Operation}
 use Rattle.slots.specs.declared.slot.Parts.{Parts}
 use Rattle.slots.specs.declared.slot.Slot.{Slot}
-use Rattle.slots.specs.Slots.{Entry, slot, parts, Kept}
-use Rattle.shelf.specs.Dating.{sooner, ahead, dated_past}
-use Rattle.slots.specs.Chain.{Chained, Once, Tied, Makes}
+use Rattle.slots.specs.Slots.{slot, parts, Kept}
+use Rattle.shelf.specs.Dating.{dating, ahead, dated_past}
+use Rattle.slots.specs.Chain.{Chained, Once, Makes}
 use Rattle.shelf.specs.Ways.{Inserts}
 use Rattle.slots.proofs.Lists.{in_left, in_right, once_left, once_right, once_apart, once_move}
-use Rattle.slots.proofs.Chains.{then_formed, then_tied, beside, read_entry}
-use Rattle.shelf.proofs.Datings.{past_last}
+use Rattle.slots.proofs.Chains.{then_formed, then_tied, beside}
+use Rattle.shelf.proofs.Datings.{past_last, tested}
 
 -- where the new slot went
 record Split (n : ℕ) (old new : List ℕ) : Type 0 where
@@ -66,11 +66,6 @@ module _ {S D : Type 0} (model : SummaryModel S) (summed : Operation → S) (dat
   insert_none within none es (node a i b) tied h room once bal low few = absurd (omega arith)
 
   module _ (mid new : List (Slot S)) (side root : ℕ) (within : link < length old) (small : link < 65536) (deep : 0 < depth) (at : Slot S) (read : at ≡ slot model old link) (up : Parts) (is : up ≡ parts at link) (kept : Kept model old mid) where
-    tested : (es : ℕ → Entry) (i : ℕ) → Tied model summed es old → link ≡ i → dated_past dates day es i ≡ not (ahead dates (dates.given at.date) link (Ok day) 65536)
-    tested es i tied e =
-        let told = ap (λ e. e.date) (read_entry model summed es old link i at read e tied) in
-        sym (ap (λ bytes. sooner dates (Ok day) (dates.given bytes)) told) ∙ past_last dates law day (dates.given at.date) link small
-
     pub insert_left : ahead dates (dates.given at.date) link (Ok day) 65536 ≡ false → Inserts model summed (dated_past dates day) old mid up.left n (depth - 1) side → Makes model summed balance mid new side up.top up.right root → Inserts model summed (dated_past dates day) old new link n depth root
     unfolding Chained Once insert_by
     insert_left later p q es leaf tied h room once bal low few = absurd (omega arith)
@@ -79,7 +74,7 @@ module _ {S D : Type 0} (model : SummaryModel S) (summed : Operation → S) (dat
         let long = kept.long in
         let first = rw (is, read, h.0) at p in
         let second = rw (is, read, h.0) at q in
-        let test : before i ≡ true = tested es i tied h.0 ∙ ap not later in
+        let test : before i ≡ true = past_last dates law day (dating dates es i) i (omega arith) ∙ ap not (tested model summed dates old link at read es i tied h.0 (Ok day) 65536 ∙ later) in
         let s = insert_splits before n a in
         let grown = insert_balances before n a bal.0 in
         let one_more = insert_size before n a in
@@ -98,7 +93,7 @@ module _ {S D : Type 0} (model : SummaryModel S) (summed : Operation → S) (dat
         let long = kept.long in
         let first = rw (is, read, h.0) at p in
         let second = rw (is, read, h.0) at q in
-        let test : before i ≡ false = tested es i tied h.0 ∙ ap not earlier in
+        let test : before i ≡ false = past_last dates law day (dating dates es i) i (omega arith) ∙ ap not (tested model summed dates old link at read es i tied h.0 (Ok day) 65536 ∙ earlier) in
         let s = insert_splits before n b in
         let grown = insert_balances before n b bal.1 in
         let one_more = insert_size before n b in

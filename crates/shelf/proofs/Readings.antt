@@ -13,9 +13,10 @@ use Rattle.dates.specs.Model.{DateModel}
 use Rattle.machines.specs.declared.operation.Operation.{Operation}
 use Rattle.slots.specs.declared.slot.Slot.{Slot}
 use Rattle.slots.specs.Slots.{Entry, slot, entry, count_over, contribution}
-use Rattle.shelf.specs.Dating.{dating, ahead}
-use Rattle.slots.specs.Chain.{Chained, Tied, standing, own}
+use Rattle.shelf.specs.Dating.{ahead}
+use Rattle.slots.specs.Chain.{Chained, standing, own}
 use Rattle.shelf.specs.Ways.{Counts, Joins, behind}
+use Rattle.shelf.proofs.Datings.{tested}
 use Rattle.slots.proofs.Chains.{figures_of, read_entry}
 use Rattle.slots.proofs.Measures.{count_fits, count_small, tree_light, own_light}
 
@@ -42,12 +43,6 @@ module _ {S : Type 0} (model : SummaryModel S) {D : Type 0} (dates : DateModel D
   counts_none r within none summed es (node a j b) h onward = let deep = h.deep in absurd (omega arith)
 
   module _ (within : link < length slots) (deeper : 0 < depth) (at : Slot S) (read : at ≡ slot model slots link) where
-    -- the test, in the words of the entries
-    tested : (summed : Operation → S) (es : ℕ → Entry) (j : ℕ) → Tied model summed es slots → link ≡ j → ahead dates (dating dates es j) j (Ok day) number ≡ ahead dates (dates.given at.date) link (Ok day) number
-    tested summed es j tied e =
-        let told = ap (λ e. e.date) (read_entry model summed es slots link j at read e tied) in
-        sym (ap (λ bytes. ahead dates (dates.given bytes) link (Ok day) number) told ∙ ap (λ k. ahead dates (dating dates es j) k (Ok day) number) e)
-
     pub counts_left : (r : ℕ) → ahead dates (dates.given at.date) link (Ok day) number ≡ false → Counts model dates day number slots at.left (depth - 1) r → Counts model dates day number slots link depth r
     unfolding Chained
     counts_left r test p summed es leaf h onward = let c = h.chained in absurd (omega arith)
@@ -56,7 +51,7 @@ module _ {S : Type 0} (model : SummaryModel S) {D : Type 0} (dates : DateModel D
         let deep = h.deep in
         let few = h.few in
         let first = rw (read, c.0) at p in
-        let past : behind dates day number es j ≡ true = ap not (tested summed es j h.tied c.0 ∙ test) in
+        let past : behind dates day number es j ≡ true = ap not (tested model summed dates slots link at read es j h.tied c.0 (Ok day) number ∙ test) in
         first summed es a (record { tied = h.tied; chained = c.2; deep = omega arith; few = omega arith }) (onward_left (behind dates day number es) (inorder a) (j ∷ inorder b) onward)
         ∙ ap (λ xs. length (filter (standing es) xs)) (sym (front_left (behind dates day number es) (inorder a) j (inorder b) onward past))
 
@@ -69,7 +64,7 @@ module _ {S : Type 0} (model : SummaryModel S) {D : Type 0} (dates : DateModel D
         let few = h.few in
         let tied = h.tied in
         let first = rw (read, c.0) at p in
-        let past : behind dates day number es j ≡ false = ap not (tested summed es j tied c.0 ∙ test) in
+        let past : behind dates day number es j ≡ false = ap not (tested model summed dates slots link at read es j tied c.0 (Ok day) number ∙ test) in
         let later = (onward_right (behind dates day number es) (inorder a) (j ∷ inorder b) onward).1 in
         let right = first summed es b (record { tied = tied; chained = c.3; deep = omega arith; few = omega arith }) later in
         let left_count = (figures_of model summed es slots (slot model slots j).left left a (rw (read, c.0) at beside) c.2).1 in
@@ -116,7 +111,7 @@ module _ {S : Type 0} (model : SummaryModel S) (law : Lawful model) (summed : Op
           let deep = h.deep in
           let few = h.few in
           let first = rw (read, c.0) at p in
-          let past : behind dates day number es j ≡ true = ap not (tested model dates day number slots link depth within deeper at read summed es j h.tied c.0 ∙ test) in
+          let past : behind dates day number es j ≡ true = ap not (tested model summed dates slots link at read es j h.tied c.0 (Ok day) number ∙ test) in
           rw past (first es a (record { tied = h.tied; chained = c.2; deep = omega arith; few = omega arith }))
 
       pub joins_right : (left : Slot S) (own_j rest r : S) → left ≡ slot model slots at.left → own_j ≡ contribution model summed (entry at) → (model.weight left.joined + model.weight own_j + model.weight rest ≤ 4096 → r ≡ model.join (model.join left.joined own_j) rest) → ahead dates (dates.given at.date) link (Ok day) number ≡ true → Joins model summed dates day number slots at.right (depth - 1) rest → Joins model summed dates day number slots link depth r
@@ -128,7 +123,7 @@ module _ {S : Type 0} (model : SummaryModel S) (law : Lawful model) (summed : Op
           let few = h.few in
           let tied = h.tied in
           let first = rw (read, c.0) at p in
-          let past : behind dates day number es j ≡ false = ap not (tested model dates day number slots link depth within deeper at read summed es j tied c.0 ∙ test) in
+          let past : behind dates day number es j ≡ false = ap not (tested model summed dates slots link at read es j tied c.0 (Ok day) number ∙ test) in
           let right = first es b (record { tied = tied; chained = c.3; deep = omega arith; few = omega arith }) in
           let left_joined = (figures_of model summed es slots (slot model slots j).left left a (rw (read, c.0) at beside) c.2).2 in
           let told = read_entry model summed es slots link j at read c.0 tied in

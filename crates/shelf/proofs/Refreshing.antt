@@ -14,8 +14,8 @@ use Rattle.shelf.specs.Dating.{sooner, dating, ahead}
 use Rattle.slots.specs.Chain.{Chained, Once, Formed, Tied, Makes}
 use Rattle.shelf.specs.Ways.{Refreshes}
 use Rattle.slots.proofs.Lists.{in_left, in_right, once_right, once_apart, sorted_once, sorted_left, sorted_right}
-use Rattle.slots.proofs.Chains.{then_formed, then_tied, beside, rechain, read_entry}
-use Rattle.shelf.proofs.Datings.{by_dating}
+use Rattle.slots.proofs.Chains.{then_formed, then_tied, beside, rechain}
+use Rattle.shelf.proofs.Datings.{by_dating, tested}
 
 module _ {S D : Type 0} (model : SummaryModel S) (summed : Operation → S) (dates : DateModel D) (law : Lawful dates) (day : D) (old : List (Slot S)) (link i depth : ℕ) where
   pub refresh_leaf : length old ≤ link → Refreshes model summed dates day old old link i depth
@@ -52,10 +52,8 @@ module _ {S D : Type 0} (model : SummaryModel S) (summed : Operation → S) (dat
         stays changed old a j b h.0 (first changed a b tied ha hb h.1 once (omega arith))
 
     -- the test, in the words of book order
-    tested : (es : ℕ → Entry) (j : ℕ) → Tied model summed es old → link ≡ j → dating dates es i ≡ Ok day → ahead dates (dating dates es j) j (dating dates es i) i ≡ ahead dates (dates.given at.date) link (Ok day) i
-    tested es j tied e dated =
-        let told = ap (λ e. e.date) (read_entry model summed es old link j at read e tied) in
-        ap (λ x. ahead dates (dating dates es j) j x i) dated ∙ sym (ap (λ bytes. ahead dates (dates.given bytes) link (Ok day) i) told ∙ ap (λ k. ahead dates (dating dates es j) k (Ok day) i) e)
+    tested_order : (es : ℕ → Entry) (j : ℕ) → Tied model summed es old → link ≡ j → dating dates es i ≡ Ok day → ahead dates (dating dates es j) j (dating dates es i) i ≡ ahead dates (dates.given at.date) link (Ok day) i
+    tested_order es j tied e dated = ap (λ x. ahead dates (dating dates es j) j x i) dated ∙ tested model summed dates old link at read es j tied e (Ok day) i
 
     module _ (mid : List (Slot S)) (kept : Kept model old mid) (deeper : 0 < depth) (other : link ≡ i → ⊥) where
       pub refresh_right : ahead dates (dates.given at.date) link (Ok day) i ≡ true → Refreshes model summed dates day old mid up.right i (depth - 1) → Makes model summed node mid new up.left up.top up.right root → Refreshes model summed dates day old new link i depth
@@ -69,7 +67,7 @@ module _ {S D : Type 0} (model : SummaryModel S) (summed : Operation → S) (dat
           let found : In i (inorder b) =
           ⊎_elim (λ e. absurd (other (h.0 ∙ sym e)))
           (⊎_elim
-          (λ w. absurd (false≢true (sym (test_fails (by_dating dates law) (dating dates changed) j i (left_before (Before (sooner dates) (dating dates changed)) i (inorder a) j (inorder b) sorted w)) ∙ tested changed j tied h.0 dated ∙ test)))
+          (λ w. absurd (false≢true (sym (test_fails (by_dating dates law) (dating dates changed) j i (left_before (Before (sooner dates) (dating dates changed)) i (inorder a) j (inorder b) sorted w)) ∙ tested_order changed j tied h.0 dated ∙ test)))
           (λ w. w))
           (in_cut i (inorder a) j (inorder b) within) in
           let x = first es changed b tied h.3 same dated (sorted_right (Before (sooner dates) (dating dates changed)) (inorder a) (j ∷ inorder b) sorted).1 found (omega arith) (omega arith) in
@@ -90,7 +88,7 @@ module _ {S D : Type 0} (model : SummaryModel S) (summed : Operation → S) (dat
           ⊎_elim (λ e. absurd (other (h.0 ∙ sym e)))
           (⊎_elim
           (λ w. w)
-          (λ w. absurd (false≢true (sym (tested changed j tied h.0 dated ∙ test) ∙ test_holds (by_dating dates law) (dating dates changed) j i (right_after (Before (sooner dates) (dating dates changed)) i (inorder a) j (inorder b) sorted w)))))
+          (λ w. absurd (false≢true (sym (tested_order changed j tied h.0 dated ∙ test) ∙ test_holds (by_dating dates law) (dating dates changed) j i (right_after (Before (sooner dates) (dating dates changed)) i (inorder a) j (inorder b) sorted w)))))
           (in_cut i (inorder a) j (inorder b) within) in
           let x = first es changed a tied h.2 same dated (sorted_left (Before (sooner dates) (dating dates changed)) (inorder a) (j ∷ inorder b) sorted) found (omega arith) (omega arith) in
           let hb = aside es changed old (slot model old j).right b same (λ w. once_apart i (inorder a) (j ∷ inorder b) once found (inr w)) h.3 in

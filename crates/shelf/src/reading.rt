@@ -49,7 +49,9 @@ pub fn count_before<D: Date, S: Summary>(shelf: &[Slot<S>], root: u16, i: u16) -
     count_ahead(shelf, root, Place::of(date, i), most_levels())
 }
 
-// The joined summaries of the entries in front of a place.
+// The joined summaries of the entries in front of a place. It is the walk of `count_ahead` over another figure. One walk
+// that takes a closure, which makes a figure of a slot and of what follows it, was written out: it is as long as both, since
+// each figure needs its closure and the walk a contract in the closure's terms.
 fn joined_ahead<D: Date, W: Watch>(
     shelf: &[Slot<W::Summary>],
     link: u16,
