@@ -1,6 +1,7 @@
 -- What is read off a tree on the way down.
-use Rattle.std.proofs.Common.{◌≡◌, ℕ, ◌+◌, ◌-◌, ◌<◌, ◌≤◌, Bool, true, false, cond, not, List, [], ◌∷◌, ◌++◌, length, Ok, filter, sym, refl, ap, ◌∙◌, arith, length-append}
+use Rattle.std.proofs.Common.{◌≡◌, ℕ, ◌+◌, ◌-◌, ◌<◌, ◌≤◌, Bool, true, false, cond, not, List, ◌∷◌, ◌++◌, length, Ok, filter, sym, refl, ap, ◌∙◌, arith, length-append}
 use Rattle.std.proofs.lemmas.List.Elements.{filter-append}
+use Rattle.std.proofs.lemmas.List.Sums.{length-filter, count_by-le-length}
 use Rattle.avl.specs.Placing.{front}
 use Rattle.avl.specs.Standing.{tree_count}
 use Rattle.avl.specs.Summary.{SummaryModel, Lawful, tree_join, front_join}
@@ -21,8 +22,7 @@ use Rattle.slots.proofs.Chains.{figures_of, read_entry}
 use Rattle.slots.proofs.Measures.{count_fits, count_small, tree_light, own_light}
 
 pub kept_small : (p : ℕ → Bool) (xs : List ℕ) → length (filter p xs) ≤ length xs
-kept_small p [] = omega arith
-kept_small p (x ∷ xs) = let ih = kept_small p xs in grind arith
+kept_small p xs = omega (arith, length-filter p xs, count_by-le-length p xs)
 
 -- the standing slots of a list that is cut at a slot
 kept_cut : (p : ℕ → Bool) (t : Tree) (i : ℕ) (ys : List ℕ) → length (filter p (inorder t ++ i ∷ ys)) ≡ tree_count p t + cond (p i) 1 0 + length (filter p ys)
