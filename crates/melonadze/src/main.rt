@@ -24,10 +24,8 @@ fn read_script(rt: &HostRuntime) -> anyhow::Result<String> {
 
 fn work_off(rt: &HostRuntime) -> anyhow::Result<()> {
     let text = read_script(rt)?;
-    match print_house_script(rt.alloc(), text.as_str()) {
-        Ok(output) => Ok(rt.print(output.as_str())?),
-        Err(fault) => Err(anyhow!(format!(in rt.alloc(); "{fault}")?)),
-    }
+    let output = print_house_script(rt.alloc(), text.as_str())?;
+    Ok(rt.print(output.as_str())?)
 }
 
 fn main(rt: HostRuntime) -> anyhow::Result<ExitCode> {

@@ -1,5 +1,5 @@
 -- Reading a script line by line.
-use Rattle.std.proofs.Common.{◌≡◌, ℕ, ◌+◌, ◌-◌, ◌<◌, ◌≤◌, List, [], ◌∷◌, ◌++◌, length, get_or, drop, Some, None, Ok, Err, Option, Result, sym, refl, ap, ◌∙◌, inl, inr, append_assoc, arith, Bor, Iter, length-drop, get_or-drop, zero-add}
+use Rattle.std.proofs.Common.{◌≡◌, ℕ, ◌+◌, ◌-◌, ◌<◌, ◌≤◌, List, [], ◌∷◌, ◌++◌, length, get_or, drop, Some, None, Ok, Err, Option, Result, sym, refl, ap, ◌∙◌, append_assoc, arith, Bor, Iter, length-drop, get_or-drop, zero-add}
 use Rattle.std.proofs.iter.Yields.{fronts}
 use Rattle.std.proofs.lemmas.Iterator.{YieldsList, YieldsList-from_slice}
 use Rattle.std.proofs.lemmas.Iterator.Adapters.{YieldsList-from_skip}
@@ -17,11 +17,9 @@ use Rattle.words.specs.declared.reason.Reason.{Reason}
 use Rattle.book.specs.declared.call.Call.{Call}
 use Rattle.dates.specs.declared.fault.NoSuchDate.{NoSuchDate}
 use Rattle.script.specs.Commands.{call, then}
-use Rattle.script.specs.Scripts.{Agrees, at_line, calls, head, head_with, line_call, put, script, script_of, setting}
-use Rattle.words.specs.Text.{lines, spelled, words}
-use Rattle.script.specs.Written.{day_written, survey_written}
+use Rattle.script.specs.Scripts.{Agrees, at_line, calls, head, head_with, line_call, put, setting}
+use Rattle.words.specs.Text.{spelled, words}
 use Rattle.script.specs.declared.line.Kind.{Kind}
-use Rattle.script.specs.declared.line.Kind.TheVariants.{Days, Survey}
 use Rattle.script.specs.declared.line.Line.{Line}
 use Rattle.script.specs.declared.line.ScriptFault.{ScriptFault}
 use Rattle.script.specs.declared.line.Setting.{Setting}
@@ -138,16 +136,3 @@ module _ (ls : List (Bor (List ℕ))) (i : ℕ) (d : Bor (List ℕ)) (within : i
 pub call_some : {D : Type 0} (written : List ℕ → Option (Result D NoSuchDate)) (ws : List (Bor (List ℕ))) → 1 ≤ length ws → line_call written (spelled ws) ≡ then (call written (spelled ws)) (λ c. Ok (Some c))
 call_some written [] h = absurd (omega arith)
 call_some written (a ∷ ws) h = refl
-
--- the calls of a script whose head names a kind and ends; ls are its lines as they lie in a slice of the pieces
-module _ (text : List ℕ) (ls pieces : List (Bor (List ℕ))) (slice : ls ≡ pieces) (cut : spelled pieces ≡ lines text) where
-  by_head : (named : Kind × ℕ) → head Days 0 (spelled ls) ≡ Ok named → script text ≡ script_of (spelled ls) named
-  by_head named told = ap (λ l. then (head Days 0 l) (script_of l)) (sym (ap spelled slice ∙ cut)) ∙ ap (λ h. then h (script_of (spelled ls))) told
-
-  pub says_days : (named : Kind × ℕ) → head Days 0 (spelled ls) ≡ Ok named → named.0 ≡ Days → script text ≡ then (calls day_written named.1 (drop named.1 (spelled ls))) (λ found. Ok (inl found))
-  says_days (Days, n) told is = by_head (Days, n) told
-  says_days (Survey, n) told is = let never : ◌≡◌ {A = ℕ} 0 1 = cc in absurd (omega arith)
-
-  pub says_surveys : (named : Kind × ℕ) → head Days 0 (spelled ls) ≡ Ok named → named.0 ≡ Survey → script text ≡ then (calls survey_written named.1 (drop named.1 (spelled ls))) (λ found. Ok (inr found))
-  says_surveys (Survey, n) told is = by_head (Survey, n) told
-  says_surveys (Days, n) told is = let never : ◌≡◌ {A = ℕ} 0 1 = cc in absurd (omega arith)

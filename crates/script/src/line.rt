@@ -33,7 +33,7 @@ pub enum Script {
 }
 
 // Why a script cannot be read: a line, by its number, is no command, or there is no memory.
-#[derive(Clone, Copy)]
+#[derive(Clone, Copy, Debug)]
 pub enum ScriptFault {
     BadLine(usize, Reason),
     NoMemory,

@@ -11,8 +11,11 @@ use crate::written::WrittenDate;
 use book::Call;
 use dates::NoSuchDate;
 use std::alloc::{AllocError, AllocFailed, Global};
+use std::error::Error;
 use std::fmt;
 use words::{Reason, lines_of, words_of};
+
+impl Error for ScriptFault {}
 
 impl From<AllocError> for ScriptFault {
     ghost from_gives = { λ _ fault. fault ≡ NoMemory };
@@ -22,6 +25,7 @@ impl From<AllocError> for ScriptFault {
     }
 }
 
+// What `push` fails with holds the value that was not stored, so `?` converts it by an impl of its own.
 impl<T: Drop> From<AllocFailed<T>> for ScriptFault {
     ghost from_gives = { λ _ fault. fault ≡ NoMemory };
 

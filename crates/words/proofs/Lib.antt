@@ -1,3 +1,4 @@
 pub mod Listed
 mod Words
 mod Lines
+mod Raw

@@ -12,19 +12,17 @@ abbrev pub with : {A B : Type 0} → Option A → Reason → (A → Result B Rea
 with None reason next = Err reason
 with (Some x) reason next = next x
 
--- the three numbers of a raw form: code and place, and an amount or an index
-abbrev pub raw_numbers : List ℕ → List ℕ → List ℕ → Result (ℕ × ℕ × ℤ) Reason
-raw_numbers code place last =
-    with (unsigned 16 code) NotUnsigned (λ c. with (unsigned 16 place) NotUnsigned (λ p. with (signed 31 last) NotSigned (λ l. Ok (c, p, l))))
+-- what is made of the three numbers of a raw form
+abbrev pub of_numbers : {A : Type 0} → (ℕ → ℕ → ℤ → A) → List ℕ → List ℕ → List ℕ → Result A Reason
+of_numbers make code place last =
+    with (unsigned 16 code) NotUnsigned (λ c. with (unsigned 16 place) NotUnsigned (λ p. with (signed 31 last) NotSigned (λ l. Ok (make c p l))))
 
 -- code, place and amount, and code, place and index
 abbrev pub raw_operation : List ℕ → List ℕ → List ℕ → Result Operation Reason
-raw_operation code place amount =
-    with (unsigned 16 code) NotUnsigned (λ c. with (unsigned 16 place) NotUnsigned (λ p. with (signed 31 amount) NotSigned (λ a. Ok (record { code = c; place = p; amount = a }))))
+raw_operation = of_numbers (λ c p a. record { code = c; place = p; amount = a })
 
 abbrev pub raw_question : List ℕ → List ℕ → List ℕ → Result Question Reason
-raw_question code place index =
-    with (unsigned 16 code) NotUnsigned (λ c. with (unsigned 16 place) NotUnsigned (λ p. with (signed 31 index) NotSigned (λ i. Ok (record { code = c; place = p; index = i }))))
+raw_question = of_numbers (λ c p i. record { code = c; place = p; index = i })
 
 abbrev pub operation : List (List ℕ) → Result Operation Reason
 operation [] = Err UnknownOperation

@@ -2,7 +2,7 @@
 //
 // Each has a form of its own for what an editor writes, which stands for the raw form of three numbers.
 ghost use Rattle.std.specs.Prelude.{◌≡◌};
-ghost use Rattle.words.specs.Operations.{operation, question, raw_numbers, raw_operation, raw_question};
+ghost use Rattle.words.specs.Operations.{of_numbers, operation, question, raw_operation, raw_question};
 ghost use Rattle.words.specs.Text.{spelled};
 
 use crate::number::read_number;
@@ -11,7 +11,7 @@ use machines::{Operation, Question};
 
 // The three numbers of a raw form.
 fn raw_numbers(code: &str, place: &str, last: &str) -> Result<(u16, u16, i32), Reason>
-    ensures { result ≡ raw_numbers code.now place.now last.now }
+    ensures { result ≡ of_numbers (λ c p l. (c, p, l)) code.now place.now last.now }
 {
     let code = read_number(code).ok_or(Reason::NotUnsigned)?;
     let place = read_number(place).ok_or(Reason::NotUnsigned)?;
@@ -22,8 +22,7 @@ fn raw_numbers(code: &str, place: &str, last: &str) -> Result<(u16, u16, i32), R
 fn operation_of(code: &str, place: &str, amount: &str) -> Result<Operation, Reason>
     ensures { result ≡ raw_operation code.now place.now amount.now }
 {
-    let (code, place, amount) = raw_numbers(code, place, amount)?;
-    Ok(Operation {
+    raw_numbers(code, place, amount).map(|(code, place, amount)| Operation {
         code,
         place,
         amount,
@@ -33,8 +32,7 @@ fn operation_of(code: &str, place: &str, amount: &str) -> Result<Operation, Reas
 fn question_of(code: &str, place: &str, index: &str) -> Result<Question, Reason>
     ensures { result ≡ raw_question code.now place.now index.now }
 {
-    let (code, place, index) = raw_numbers(code, place, index)?;
-    Ok(Question { code, place, index })
+    raw_numbers(code, place, index).map(|(code, place, index)| Question { code, place, index })
 }
 
 // The operation that an entering names.

@@ -4,7 +4,7 @@ ghost use Rattle.words.specs.Reasons.{explained};
 
 use std::fmt;
 
-#[derive(Clone, Copy)]
+#[derive(Clone, Copy, Debug)]
 pub enum Reason {
     UnknownCommand,
     UnknownKind,

@@ -1,0 +1,6 @@
+use Rattle.std.proofs.Common.{rules}
+use Rattle.words.proofs.Raw.{made_of}
+use Rattle.words.proofs.operation.operation_of.Goals as goal
+
+pub returns : goal.returns
+returns c = made_of (λ code place amount. record { code = code; place = place; amount = amount }) c.map.result c.args.code.now c.args.place.now c.args.amount.now c.raw_numbers.result c.raw_numbers.ensures (search rules)
