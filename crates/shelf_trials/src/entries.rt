@@ -1,7 +1,7 @@
 // Dates, operations and watches of the tests, and shelves that entries fill.
 use dates::{DayNumber, SurveyDate};
 use machines::Operation;
-use primitives::CHANGE;
+use primitives::{CHANGE, DRAW, ORDER};
 use shelf::{add, no_root};
 use slots::Slot;
 use std::test::Fail;
@@ -12,27 +12,32 @@ pub(crate) fn day(number: i32) -> DayNumber {
 }
 
 pub(crate) fn survey_date(year: u16, month: u8, day: u8) -> Result<SurveyDate, Fail> {
-    match SurveyDate::new(year, month, day) {
-        Ok(date) => Ok(date),
-        Err(fault) => Err(Fail::new(fault)),
-    }
+    SurveyDate::new(year, month, day).map_err(Fail::new)
 }
 
-// The change of cell 0 by that amount.
-pub(crate) fn change(amount: i32) -> Operation {
+fn operation(code: u16, place: u16, amount: i32) -> Operation {
     Operation {
-        code: CHANGE,
-        place: 0,
+        code,
+        place,
         amount,
     }
 }
 
+pub(crate) fn change(cell: u16, amount: i32) -> Operation {
+    operation(CHANGE, cell, amount)
+}
+
+pub(crate) fn order(job: i32) -> Operation {
+    operation(ORDER, 0, job)
+}
+
+pub(crate) fn draw() -> Operation {
+    operation(DRAW, 0, 0)
+}
+
 // The watch of that cell.
 pub(crate) fn cell(number: u16) -> Result<CellWatch, Fail> {
-    match CellWatch::new(number) {
-        Some(watch) => Ok(watch),
-        None => Err(Fail::new("no such cell")),
-    }
+    CellWatch::new(number).ok_or_else(|| Fail::new("no such cell"))
 }
 
 // Adds an entry for each day from slot 0 on, which changes cell 0 by 1, and answers the root.
@@ -43,10 +48,7 @@ pub(crate) fn fill_days(
 ) -> Result<u16, Fail> {
     let mut root = no_root::<DayNumber, Sum>();
     for (n, number) in (0..u16::MAX).zip(days) {
-        match add(shelf, root, n, &day(*number), change(1), watch) {
-            Some(top) => root = top,
-            None => return Err(Fail::new("refused")),
-        }
+        root = add(shelf, root, n, &day(*number), change(0, 1), watch).ok_or("refused")?;
     }
     Ok(root)
 }

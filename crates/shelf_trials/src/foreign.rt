@@ -10,14 +10,14 @@ use watches::{CellWatch, Sum};
 fn linked(left: u16, right: u16, level: u16, count: u16, total: i64) -> Slot<Sum> {
     Slot {
         date: day(-1).to_bytes(),
-        operation: change(1),
+        operation: change(0, 1),
         standing: true,
-        note: None,
         left,
         right,
         level,
         count,
         joined: Sum { total },
+        ..Slot::blank()
     }
 }
 
@@ -37,7 +37,10 @@ fn slots_that_link_to_themselves_with_the_largest_figures_are_safe(
     assert_eq!(rt; count_before::<DayNumber, Sum>(&shelf, 0, 1), u16::MAX);
     assert_eq!(rt; find::<DayNumber, Sum>(&shelf, 0, 0), None);
     assert_eq!(rt; find::<DayNumber, Sum>(&shelf, 0, u16::MAX), Some(0));
-    assert_eq!(rt; add(&mut shelf, 0, 1, &day(-1), change(2), &watch), Some(0));
+    assert_eq!(rt;
+        add(&mut shelf, 0, 1, &day(-1), change(0, 2), &watch),
+        Some(0)
+    );
     void::<DayNumber, CellWatch>(&mut shelf, 0, 0, &watch);
     assert_eq!(rt; (shelf[0].standing, shelf[1].operation.amount), (false, 2));
     Ok(())
@@ -58,10 +61,7 @@ fn links_in_a_circle_are_safe(rt: HostRuntime) -> Result<(), Fail> {
     assert_eq!(rt; find::<DayNumber, Sum>(&shelf, 0, 0), None);
     assert_eq!(rt; find::<DayNumber, Sum>(&shelf, 0, 27), Some(2));
     assert_eq!(rt; find::<DayNumber, Sum>(&shelf, 0, 28), None);
-    assert_eq!(rt;
-        add(&mut shelf, 0, 2, &day(-1), change(2), &watch).is_some(),
-        true
-    );
+    assert!(rt; add(&mut shelf, 0, 2, &day(-1), change(0, 2), &watch).is_some());
     void::<DayNumber, CellWatch>(&mut shelf, 0, 0, &watch);
     assert_eq!(rt; (shelf[0].standing, shelf[2].operation.amount), (false, 2));
     Ok(())
@@ -82,8 +82,8 @@ fn dates_that_are_no_dates_are_safe(rt: HostRuntime) -> Result<(), Fail> {
     assert_eq!(rt; count_up_to(&shelf, 0, &first), 3);
     assert_eq!(rt; count_before::<SurveyDate, Sum>(&shelf, 0, 2), 0);
     void::<SurveyDate, CellWatch>(&mut shelf, 0, 1, &watch);
-    assert_eq!(rt; shelf[1].standing, false);
-    let root = add(&mut shelf, 0, 3, &first, change(1), &watch).ok_or("refused")?;
+    assert!(rt; !shelf[1].standing);
+    let root = add(&mut shelf, 0, 3, &first, change(0, 1), &watch).ok_or("refused")?;
     assert_eq!(rt; count_before::<SurveyDate, Sum>(&shelf, root, 3), 2);
     Ok(())
 }

@@ -1,28 +1,34 @@
 // What is refused, and what the calls that write leave as it is.
-use crate::checks::all_is_kept;
 use crate::entries::{cell, change, day, fill_days};
 use dates::DayNumber;
 use shelf::{add, set_note, void};
 use slots::Slot;
-use slots::figures::slot_at;
 use std::test::Fail;
 use watches::{CellWatch, Sum};
+
+const IDLE: Note = Note::Idle;
+
+const MOVED: Note = Note::Moved(7);
+
+// The levels and the standing entries of the tree at that link.
+fn size_at(shelf: &[Slot<Sum>], link: u16) -> Option<(u16, u16)> {
+    let top = shelf.get(link as usize)?;
+    Some((top.level, top.count))
+}
 
 #[test]
 fn the_1_025th_entry_is_refused_though_there_is_a_slot(rt: HostRuntime) -> Result<(), Fail> {
     let watch = cell(0)?;
     let mut shelf = [Slot::blank(); 1_025];
     let root = fill_days(&mut shelf, &[1; 1_024], &watch)?;
-    assert_eq!(rt;
-        (slot_at(&shelf, root).level, slot_at(&shelf, root).count),
-        (11, 1_024)
-    );
+    assert_eq!(rt; size_at(&shelf, root), Some((11, 1_024)));
     let before = shelf;
     assert_eq!(rt;
-        add(&mut shelf, root, 1_024, &day(1), change(1), &watch),
+        add(&mut shelf, root, 1_024, &day(1), change(0, 1), &watch),
         None
     );
-    all_is_kept(&rt, &before, &shelf)
+    assert!(rt; shelf == before);
+    Ok(())
 }
 
 #[test]
@@ -31,12 +37,16 @@ fn an_entry_past_the_shelf_is_refused(rt: HostRuntime) -> Result<(), Fail> {
     let mut shelf = [Slot::blank(); 3];
     let root = fill_days(&mut shelf, &[1, 2, 3], &watch)?;
     let before = shelf;
-    assert_eq!(rt; add(&mut shelf, root, 3, &day(4), change(1), &watch), None);
     assert_eq!(rt;
-        add(&mut shelf, root, u16::MAX, &day(4), change(1), &watch),
+        add(&mut shelf, root, 3, &day(4), change(0, 1), &watch),
         None
     );
-    all_is_kept(&rt, &before, &shelf)
+    assert_eq!(rt;
+        add(&mut shelf, root, u16::MAX, &day(4), change(0, 1), &watch),
+        None
+    );
+    assert!(rt; shelf == before);
+    Ok(())
 }
 
 #[test]
@@ -47,9 +57,10 @@ fn a_number_past_the_shelf_is_neither_voided_nor_noted(rt: HostRuntime) -> Resul
     let before = shelf;
     void::<DayNumber, CellWatch>(&mut shelf, root, 3, &watch);
     void::<DayNumber, CellWatch>(&mut shelf, root, u16::MAX, &watch);
-    set_note::<DayNumber, Sum>(&mut shelf, 3, Some(7));
-    set_note::<DayNumber, Sum>(&mut shelf, u16::MAX, Some(7));
-    all_is_kept(&rt, &before, &shelf)
+    set_note::<DayNumber, Sum>(&mut shelf, 3, MOVED);
+    set_note::<DayNumber, Sum>(&mut shelf, u16::MAX, MOVED);
+    assert!(rt; shelf == before);
+    Ok(())
 }
 
 #[test]
@@ -60,8 +71,8 @@ fn voiding_again_changes_nothing_more(rt: HostRuntime) -> Result<(), Fail> {
     void::<DayNumber, CellWatch>(&mut shelf, root, 1, &watch);
     let before = shelf;
     void::<DayNumber, CellWatch>(&mut shelf, root, 1, &watch);
-    all_is_kept(&rt, &before, &shelf)?;
-    assert_eq!(rt; slot_at(&shelf, root).count, 2);
+    assert!(rt; shelf == before);
+    assert_eq!(rt; size_at(&shelf, root).map(|(_, count)| count), Some(2));
     Ok(())
 }
 
@@ -70,12 +81,13 @@ fn a_note_changes_nothing_else(rt: HostRuntime) -> Result<(), Fail> {
     let mut shelf = [Slot::blank(); 3];
     let _root = fill_days(&mut shelf, &[3, 1, 2], &cell(0)?)?;
     let mut noted = shelf;
-    noted[1].note = Some(7);
-    set_note::<DayNumber, Sum>(&mut shelf, 1, Some(7));
-    all_is_kept(&rt, &noted, &shelf)?;
-    noted[1].note = None;
-    set_note::<DayNumber, Sum>(&mut shelf, 1, None);
-    all_is_kept(&rt, &noted, &shelf)
+    noted[1].note = MOVED;
+    set_note::<DayNumber, Sum>(&mut shelf, 1, MOVED);
+    assert!(rt; shelf == noted);
+    noted[1].note = IDLE;
+    set_note::<DayNumber, Sum>(&mut shelf, 1, IDLE);
+    assert!(rt; shelf == noted);
+    Ok(())
 }
 
 #[test]
@@ -83,9 +95,9 @@ fn a_slot_without_an_entry_keeps_its_content(rt: HostRuntime) -> Result<(), Fail
     let watch = cell(0)?;
     let content = Slot {
         date: [1, 2, 3, 4],
-        operation: change(6),
+        operation: change(0, 6),
         standing: true,
-        note: Some(7),
+        note: MOVED,
         left: 0,
         right: 1,
         level: 8,
@@ -95,9 +107,7 @@ fn a_slot_without_an_entry_keeps_its_content(rt: HostRuntime) -> Result<(), Fail
     let mut shelf = [content; 4];
     let root = fill_days(&mut shelf, &[1, 3, 2], &watch)?;
     void::<DayNumber, CellWatch>(&mut shelf, root, 0, &watch);
-    assert_eq!(rt;
-        (slot_at(&shelf, root).level, slot_at(&shelf, root).count),
-        (2, 2)
-    );
-    all_is_kept(&rt, &[content], &shelf[3..])
+    assert_eq!(rt; size_at(&shelf, root), Some((2, 2)));
+    assert!(rt; shelf[3] == content);
+    Ok(())
 }

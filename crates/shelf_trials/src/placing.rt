@@ -1,8 +1,7 @@
 // Where an entry goes in book order, and the rotations that keep the tree balanced.
 use crate::entries::{cell, change, survey_date};
-use crate::runs::{Act, run_on_cell};
+use crate::runs::Trial;
 use dates::SurveyDate;
-use primitives::CHANGE;
 use shelf::{add, count_before, count_up_to, no_root};
 use slots::Slot;
 use std::test::Fail;
@@ -10,58 +9,36 @@ use watches::Sum;
 
 #[test]
 fn an_entry_goes_behind_others_of_its_date(rt: HostRuntime) -> Result<(), Fail> {
-    run_on_cell(
-        &rt,
-        rt.alloc(),
-        &[
-            Act::Enters(5, CHANGE, 0, 1),
-            Act::Enters(5, CHANGE, 0, 1),
-            Act::Enters(3, CHANGE, 0, 1),
-            Act::Enters(5, CHANGE, 0, 1),
-            Act::Finds(0, Some(2)),
-            Act::Finds(1, Some(0)),
-            Act::Finds(2, Some(1)),
-            Act::Finds(3, Some(3)),
-        ],
-    )
+    let mut shelf = Trial::new(rt.alloc(), cell(0)?, 8)?;
+    shelf.enter_days(&[5, 5, 3, 5])?;
+    assert_eq!(rt; shelf.find(0), Some(2));
+    assert_eq!(rt; shelf.find(1), Some(0));
+    assert_eq!(rt; shelf.find(2), Some(1));
+    assert_eq!(rt; shelf.find(3), Some(3));
+    Ok(())
 }
 
 #[test]
 fn a_late_entry_goes_between_earlier_and_later_ones(rt: HostRuntime) -> Result<(), Fail> {
-    run_on_cell(
-        &rt,
-        rt.alloc(),
-        &[
-            Act::Enters(10, CHANGE, 0, 1),
-            Act::Enters(20, CHANGE, 0, 1),
-            Act::Enters(30, CHANGE, 0, 1),
-            Act::Enters(25, CHANGE, 0, 1),
-            Act::Finds(0, Some(0)),
-            Act::Finds(1, Some(1)),
-            Act::Finds(2, Some(3)),
-            Act::Finds(3, Some(2)),
-        ],
-    )
+    let mut shelf = Trial::new(rt.alloc(), cell(0)?, 8)?;
+    shelf.enter_days(&[10, 20, 30, 25])?;
+    assert_eq!(rt; shelf.find(0), Some(0));
+    assert_eq!(rt; shelf.find(1), Some(1));
+    assert_eq!(rt; shelf.find(2), Some(3));
+    assert_eq!(rt; shelf.find(3), Some(2));
+    Ok(())
 }
 
 #[test]
 fn days_go_by_their_numbers_and_not_by_their_bytes(rt: HostRuntime) -> Result<(), Fail> {
-    run_on_cell(
-        &rt,
-        rt.alloc(),
-        &[
-            Act::Enters(i32::MAX, CHANGE, 0, 1),
-            Act::Enters(256, CHANGE, 0, 1),
-            Act::Enters(1, CHANGE, 0, 1),
-            Act::Enters(-1, CHANGE, 0, 1),
-            Act::Enters(i32::MIN, CHANGE, 0, 1),
-            Act::Finds(0, Some(4)),
-            Act::Finds(1, Some(3)),
-            Act::Finds(2, Some(2)),
-            Act::Finds(3, Some(1)),
-            Act::Finds(4, Some(0)),
-        ],
-    )
+    let mut shelf = Trial::new(rt.alloc(), cell(0)?, 8)?;
+    shelf.enter_days(&[i32::MAX, 256, 1, -1, i32::MIN])?;
+    assert_eq!(rt; shelf.find(0), Some(4));
+    assert_eq!(rt; shelf.find(1), Some(3));
+    assert_eq!(rt; shelf.find(2), Some(2));
+    assert_eq!(rt; shelf.find(3), Some(1));
+    assert_eq!(rt; shelf.find(4), Some(0));
+    Ok(())
 }
 
 #[test]
@@ -75,7 +52,7 @@ fn an_unknown_day_goes_before_the_known_ones(rt: HostRuntime) -> Result<(), Fail
         no_root::<SurveyDate, Sum>(),
         0,
         &known,
-        change(1),
+        change(0, 1),
         &watch,
     );
     let root = add(
@@ -83,7 +60,7 @@ fn an_unknown_day_goes_before_the_known_ones(rt: HostRuntime) -> Result<(), Fail
         root.unwrap_or(0),
         1,
         &unknown,
-        change(1),
+        change(0, 1),
         &watch,
     );
     assert_eq!(rt; root, Some(0));
@@ -95,77 +72,51 @@ fn an_unknown_day_goes_before_the_known_ones(rt: HostRuntime) -> Result<(), Fail
 
 #[test]
 fn of_days_1_3_2_the_middle_comes_to_the_top(rt: HostRuntime) -> Result<(), Fail> {
-    run_on_cell(
-        &rt,
-        rt.alloc(),
-        &[
-            Act::Enters(1, CHANGE, 0, 1),
-            Act::Enters(3, CHANGE, 0, 1),
-            Act::Enters(2, CHANGE, 0, 1),
-            Act::Root(2),
-            Act::Links(2, 0, 1, 2),
-        ],
-    )
+    let mut shelf = Trial::new(rt.alloc(), cell(0)?, 8)?;
+    shelf.enter_days(&[1, 3, 2])?;
+    assert_eq!(rt; shelf.root(), 2);
+    assert_eq!(rt; shelf.tree_at(2), Some((0, 1, 2)));
+    Ok(())
 }
 
 #[test]
 fn of_days_3_1_2_the_middle_comes_to_the_top(rt: HostRuntime) -> Result<(), Fail> {
-    run_on_cell(
-        &rt,
-        rt.alloc(),
-        &[
-            Act::Enters(3, CHANGE, 0, 1),
-            Act::Enters(1, CHANGE, 0, 1),
-            Act::Enters(2, CHANGE, 0, 1),
-            Act::Root(2),
-            Act::Links(2, 1, 0, 2),
-        ],
-    )
+    let mut shelf = Trial::new(rt.alloc(), cell(0)?, 8)?;
+    shelf.enter_days(&[3, 1, 2])?;
+    assert_eq!(rt; shelf.root(), 2);
+    assert_eq!(rt; shelf.tree_at(2), Some((1, 0, 2)));
+    Ok(())
 }
 
 // The shelf that the documents draw, with its fourth entry voided.
 #[test]
 fn the_shelf_of_five_entries_is_chained_as_drawn(rt: HostRuntime) -> Result<(), Fail> {
-    run_on_cell(
-        &rt,
-        rt.alloc(),
-        &[
-            Act::Enters(20, CHANGE, 0, 4),
-            Act::Enters(10, CHANGE, 0, 5),
-            Act::Enters(30, CHANGE, 0, -2),
-            Act::Enters(12, CHANGE, 0, 7),
-            Act::Enters(30, CHANGE, 0, 1),
-            Act::Voids(3),
-            Act::Root(0),
-            Act::Links(0, 1, 2, 3),
-            Act::Links(1, u16::MAX, 3, 2),
-            Act::Links(2, u16::MAX, 4, 2),
-            Act::Finds(0, Some(1)),
-            Act::Finds(3, Some(4)),
-            Act::CountsUpTo(25, 2),
-            Act::Figures(25, 9),
-            Act::Figures(30, 8),
-        ],
-    )
+    let mut shelf = Trial::new(rt.alloc(), cell(0)?, 8)?;
+    shelf.enter(20, change(0, 4))?;
+    shelf.enter(10, change(0, 5))?;
+    shelf.enter(30, change(0, -2))?;
+    shelf.enter(12, change(0, 7))?;
+    shelf.enter(30, change(0, 1))?;
+    shelf.void(3);
+    assert_eq!(rt; shelf.root(), 0);
+    assert_eq!(rt; shelf.tree_at(0), Some((1, 2, 3)));
+    assert_eq!(rt; shelf.tree_at(1), Some((u16::MAX, 3, 2)));
+    assert_eq!(rt; shelf.tree_at(2), Some((u16::MAX, 4, 2)));
+    assert_eq!(rt; shelf.find(0), Some(1));
+    assert_eq!(rt; shelf.find(3), Some(4));
+    assert_eq!(rt; shelf.count_up_to(25), 2);
+    assert_eq!(rt; shelf.figure_up_to(25)?, 9);
+    assert_eq!(rt; shelf.figure_up_to(30)?, 8);
+    Ok(())
 }
 
 #[test]
 fn seven_rising_days_have_3_levels(rt: HostRuntime) -> Result<(), Fail> {
-    run_on_cell(
-        &rt,
-        rt.alloc(),
-        &[
-            Act::Enters(1, CHANGE, 0, 1),
-            Act::Enters(2, CHANGE, 0, 1),
-            Act::Enters(3, CHANGE, 0, 1),
-            Act::Enters(4, CHANGE, 0, 1),
-            Act::Enters(5, CHANGE, 0, 1),
-            Act::Enters(6, CHANGE, 0, 1),
-            Act::Enters(7, CHANGE, 0, 1),
-            Act::Root(3),
-            Act::Links(3, 1, 5, 3),
-            Act::Links(1, 0, 2, 2),
-            Act::Links(5, 4, 6, 2),
-        ],
-    )
+    let mut shelf = Trial::new(rt.alloc(), cell(0)?, 8)?;
+    shelf.enter_days(&[1, 2, 3, 4, 5, 6, 7])?;
+    assert_eq!(rt; shelf.root(), 3);
+    assert_eq!(rt; shelf.tree_at(3), Some((1, 5, 3)));
+    assert_eq!(rt; shelf.tree_at(1), Some((0, 2, 2)));
+    assert_eq!(rt; shelf.tree_at(5), Some((4, 6, 2)));
+    Ok(())
 }

@@ -1,175 +1,118 @@
-// What is done to a small shelf, and what is expected of it.
-use crate::entries::{cell, day};
+// A small shelf under a watch, and what its calls answer. Days are written by their numbers, and slots by theirs.
+use crate::entries::{change, day};
 use dates::DayNumber;
 use machines::{Counter, Operation};
-use shelf::{add, count_before, count_up_to, figure_up_to, find, no_root, void};
+use shelf::{add, count_before, count_up_to, figure_up_to, find, joined_up_to, no_root, void};
 use slots::Slot;
-use slots::figures::slot_at;
-use std::alloc::Global;
-use std::process::Abort;
+use std::alloc::{AllocError, Global};
 use std::test::Fail;
-use watches::{Summary, Watch};
+use watches::Watch;
 
-// Days are written by their numbers, and slots by theirs.
-#[derive(Clone, Copy)]
-pub enum Act {
-    // The next entry comes in: its day, and the code, place and amount of its operation.
-    Enters(i32, u16, u16, i32),
-    Voids(u16),
-    // The standing entry behind so many others lies in the slot, or there is none.
-    Finds(u16, Option<u16>),
-    // So many standing entries are dated no later than the day.
-    CountsUpTo(i32, u16),
-    // So many standing entries are in front of the one in the slot.
-    CountsBefore(u16, u16),
-    // Up to the day the watch figures the number, and the stepped machine reads it.
-    Figures(i32, i64),
-    // The slot is the root.
-    Root(u16),
-    // The slot has these two links, and is the top of so many levels.
-    Links(u16, u16, u16, u16),
-}
-
-// What the owner of a shelf keeps.
-#[derive(Clone, Copy)]
-struct Owner {
+// The slots of a shelf, with what their owner keeps: the root and the number of entries.
+#[derive(Drop)]
+pub struct Trial<W: Watch> {
+    heap: Global,
+    watch: W,
+    slots: Vec<Slot<W::Summary>>,
     root: u16,
     entries: u16,
 }
 
-fn enter<W: Watch>(
-    shelf: &mut [Slot<W::Summary>],
-    owner: Owner,
-    date: DayNumber,
-    operation: Operation,
-    watch: &W,
-) -> Result<Owner, Fail> {
-    match add(shelf, owner.root, owner.entries, &date, operation, watch) {
-        Some(root) => Ok(Owner {
-            root,
-            entries: owner.entries.saturating_add(1),
-        }),
-        None => Err(Fail::new("refused")),
+impl<W: Watch + Drop> Trial<W> {
+    // A shelf of so many slots, with no entry.
+    pub(crate) fn new(heap: Global, watch: W, slots: usize) -> Result<Trial<W>, AllocError> {
+        Ok(Trial {
+            heap,
+            watch,
+            slots: vec![in heap; Slot::blank(); slots]?,
+            root: no_root::<DayNumber, W::Summary>(),
+            entries: 0,
+        })
     }
-}
 
-// What the watched machine reads after steps with the standing entries dated no later.
-fn stepped<W: Watch>(
-    heap: Global,
-    shelf: &[Slot<W::Summary>],
-    root: u16,
-    date: DayNumber,
-    watch: &W,
-) -> Result<Option<i64>, Fail> {
-    let mut counter = Counter::<W::Machine>::new(heap)?;
-    for k in 0..count_up_to(shelf, root, &date) {
-        if let Some(i) = find::<DayNumber, W::Summary>(shelf, root, k)
-            && (i as usize) < shelf.len()
-        {
-            counter.step(&shelf[i as usize].operation);
-        }
+    // Adds the next entry, under that day.
+    pub(crate) fn enter(&mut self, number: i32, operation: Operation) -> Result<(), Fail> {
+        let n = self.entries;
+        let added = add(
+            self.slots.as_mut_slice(),
+            self.root,
+            n,
+            &day(number),
+            operation,
+            &self.watch,
+        );
+        let Some(root) = added else {
+            return Err(Fail::new(format_args!("slot {n}: the entry is refused")));
+        };
+        self.root = root;
+        self.entries = n.saturating_add(1);
+        Ok(())
     }
-    Ok(counter.read(&watch.question()))
-}
 
-fn has_links<S: Summary>(shelf: &[Slot<S>], i: u16, left: u16, right: u16) -> bool {
-    (i as usize) < shelf.len() && shelf[i as usize].left == left && shelf[i as usize].right == right
-}
-
-// Expects what the act of that index says.
-fn expect<W: Watch>(
-    rt: &impl Abort,
-    heap: Global,
-    shelf: &[Slot<W::Summary>],
-    root: u16,
-    watch: &W,
-    i: usize,
-    act: Act,
-) -> Result<(), Fail> {
-    match act {
-        Act::Finds(k, slot) => {
-            let found = find::<DayNumber, W::Summary>(shelf, root, k);
-            assert_eq!(rt; found, slot, "act {i}");
-            Ok(())
+    // Adds an entry under each of those days, which changes cell 0 by 1.
+    pub(crate) fn enter_days(&mut self, numbers: &[i32]) -> Result<(), Fail> {
+        for number in numbers {
+            self.enter(*number, change(0, 1))?;
         }
-        Act::CountsUpTo(number, count) => {
-            assert_eq!(rt; count_up_to(shelf, root, &day(number)), count, "act {i}");
-            Ok(())
-        }
-        Act::CountsBefore(slot, count) => {
-            let before = count_before::<DayNumber, W::Summary>(shelf, root, slot);
-            assert_eq!(rt; before, count, "act {i}");
-            Ok(())
-        }
-        Act::Figures(number, figure) => {
-            let date = day(number);
-            assert_eq!(rt; figure_up_to(shelf, root, &date, watch), figure, "act {i}");
-            let read = stepped(heap, shelf, root, date, watch)?;
-            assert_eq!(rt; read, Some(figure), "act {i}");
-            Ok(())
-        }
-        Act::Root(top) => {
-            assert_eq!(rt; root, top, "act {i}");
-            Ok(())
-        }
-        Act::Links(slot, left, right, levels) => {
-            assert!(rt; has_links(shelf, slot, left, right), "act {i}");
-            assert_eq!(rt; slot_at(shelf, slot).level, levels, "act {i}");
-            Ok(())
-        }
-        Act::Enters(_, _, _, _) | Act::Voids(_) => Ok(()),
+        Ok(())
     }
-}
 
-// Does the act of that index, and answers what the owner then keeps.
-fn do_act<W: Watch>(
-    rt: &impl Abort,
-    heap: Global,
-    shelf: &mut [Slot<W::Summary>],
-    owner: Owner,
-    watch: &W,
-    i: usize,
-    act: Act,
-) -> Result<Owner, Fail> {
-    match act {
-        Act::Enters(number, code, place, amount) => {
-            let operation = Operation {
-                code,
-                place,
-                amount,
-            };
-            enter(shelf, owner, day(number), operation, watch)
-        }
-        Act::Voids(slot) => {
-            void::<DayNumber, W>(shelf, owner.root, slot, watch);
-            Ok(owner)
-        }
-        _ => {
-            expect(rt, heap, shelf, owner.root, watch, i, act)?;
-            Ok(owner)
-        }
+    pub(crate) fn void(&mut self, slot: u16) {
+        void::<DayNumber, W>(self.slots.as_mut_slice(), self.root, slot, &self.watch);
     }
-}
 
-// Does the acts, from the first on, to the shelf.
-pub(crate) fn run<W: Watch>(
-    rt: &impl Abort,
-    heap: Global,
-    shelf: &mut [Slot<W::Summary>],
-    watch: &W,
-    acts: &[Act],
-) -> Result<(), Fail> {
-    let mut owner = Owner {
-        root: no_root::<DayNumber, W::Summary>(),
-        entries: 0,
-    };
-    for (i, act) in acts.iter().enumerate() {
-        owner = do_act(rt, heap, shelf, owner, watch, i, *act)?;
+    pub(crate) fn root(&self) -> u16 {
+        self.root
     }
-    Ok(())
-}
 
-// Does them to a shelf of eight slots, under a watch of cell 0.
-pub(crate) fn run_on_cell(rt: &impl Abort, heap: Global, acts: &[Act]) -> Result<(), Fail> {
-    run(rt, heap, &mut [Slot::blank(); 8], &cell(0)?, acts)
+    // The links of the slot to the left and to the right, and the levels of the tree that it is the top of.
+    pub(crate) fn tree_at(&self, slot: u16) -> Option<(u16, u16, u16)> {
+        let top = self.slots.get(slot as usize)?;
+        Some((top.left, top.right, top.level))
+    }
+
+    // The slot of the standing entry behind so many others.
+    pub(crate) fn find(&self, k: u16) -> Option<u16> {
+        find::<DayNumber, W::Summary>(self.slots.as_slice(), self.root, k)
+    }
+
+    // How many standing entries are dated no later than the day.
+    pub(crate) fn count_up_to(&self, number: i32) -> u16 {
+        count_up_to(self.slots.as_slice(), self.root, &day(number))
+    }
+
+    // How many standing entries are in front of the one in the slot.
+    pub(crate) fn count_before(&self, slot: u16) -> u16 {
+        count_before::<DayNumber, W::Summary>(self.slots.as_slice(), self.root, slot)
+    }
+
+    // The joined summaries of the standing entries dated no later than the day.
+    pub(crate) fn joined_up_to(&self, number: i32) -> W::Summary {
+        joined_up_to(self.slots.as_slice(), self.root, &day(number), &self.watch)
+    }
+
+    // What the watched machine reads after steps with the standing entries dated no later than the day.
+    fn read_up_to(&self, number: i32) -> Result<Option<i64>, AllocError> {
+        let mut counter = Counter::<W::Machine>::new(self.heap)?;
+        for k in 0..self.count_up_to(number) {
+            if let Some(i) = self.find(k)
+                && let Some(slot) = self.slots.get(i as usize)
+            {
+                counter.step(&slot.operation);
+            }
+        }
+        Ok(counter.read(&self.watch.question()))
+    }
+
+    // What the watch figures up to the day, which the stepped machine has to read too.
+    pub(crate) fn figure_up_to(&self, number: i32) -> Result<i64, Fail> {
+        let figure = figure_up_to(self.slots.as_slice(), self.root, &day(number), &self.watch);
+        let read = self.read_up_to(number)?;
+        if read != Some(figure) {
+            return Err(Fail::new(format_args!(
+                "up to day {number} the watch figures {figure}, and the machine reads {read:?}"
+            )));
+        }
+        Ok(figure)
+    }
 }

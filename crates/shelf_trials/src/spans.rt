@@ -1,38 +1,30 @@
 // Spans are joined in book order, and not as their entries arrive.
-use crate::entries::day;
-use dates::DayNumber;
+use crate::entries::{draw, order};
+use crate::runs::Trial;
 use machines::Operation;
-use primitives::{DRAW, ORDER};
-use shelf::{add, joined_up_to, no_root};
-use slots::Slot;
-use watches::{Span, WaitingWatch};
+use std::alloc::Global;
+use std::test::Fail;
+use watches::WaitingWatch;
 
-// An entry by its day and the code of its operation.
-type Entry = (i32, u16);
-
-// Adds the entry, and answers the root; where it is refused, the old one.
-fn enter(shelf: &mut [Slot<Span>], root: u16, n: u16, (number, code): Entry) -> u16 {
-    let operation = Operation {
-        code,
-        place: 0,
-        amount: 0,
-    };
-    add(shelf, root, n, &day(number), operation, &WaitingWatch).unwrap_or(root)
-}
+// An entry by its day and its operation.
+type Entry = (i32, Operation);
 
 // The draws unmet and the jobs left of two entries up to day 2.
-fn span_of(first: Entry, second: Entry) -> (u32, u32) {
-    let mut shelf = [Slot::blank(); 2];
-    let root = enter(&mut shelf, no_root::<DayNumber, Span>(), 0, first);
-    let root = enter(&mut shelf, root, 1, second);
-    let span = joined_up_to(&shelf, root, &day(2), &WaitingWatch);
-    (span.unmet, span.left)
+fn span_of(heap: Global, first: Entry, second: Entry) -> Result<(u32, u32), Fail> {
+    let mut shelf = Trial::new(heap, WaitingWatch, 2)?;
+    for (number, operation) in [first, second] {
+        shelf.enter(number, operation)?;
+    }
+    let span = shelf.joined_up_to(2);
+    Ok((span.unmet, span.left))
 }
 
 #[test]
-fn an_order_meets_a_draw_dated_later_and_none_dated_earlier(rt: HostRuntime) {
-    assert_eq!(rt; span_of((1, ORDER), (2, DRAW)), (0, 0));
-    assert_eq!(rt; span_of((2, DRAW), (1, ORDER)), (0, 0));
-    assert_eq!(rt; span_of((1, DRAW), (2, ORDER)), (1, 1));
-    assert_eq!(rt; span_of((2, ORDER), (1, DRAW)), (1, 1));
+fn an_order_meets_a_draw_dated_later_and_none_dated_earlier(rt: HostRuntime) -> Result<(), Fail> {
+    let heap = rt.alloc();
+    assert_eq!(rt; span_of(heap, (1, order(0)), (2, draw()))?, (0, 0));
+    assert_eq!(rt; span_of(heap, (2, draw()), (1, order(0)))?, (0, 0));
+    assert_eq!(rt; span_of(heap, (1, draw()), (2, order(0)))?, (1, 1));
+    assert_eq!(rt; span_of(heap, (2, order(0)), (1, draw()))?, (1, 1));
+    Ok(())
 }
