@@ -52,85 +52,95 @@ fn operation(n: u16) -> Operation {
     }
 }
 
-fn print_line(
-    rt: &HostRuntime,
-    shelf: &[Slot<Sum>],
+// A shelf with the root that its owner keeps, and the watch of its sums.
+#[derive(Clone, Copy)]
+struct WatchedShelf {
+    slots: [Slot<Sum>; SLOTS as usize],
     root: u16,
-    n: u16,
-    watch: &CellWatch,
-) -> io::Result<()> {
-    let last_day = DayNumber::new(LAST_DAY);
-    let levels = slot_at(shelf, root).level;
-    let standing = count_up_to(shelf, root, &last_day);
-    let sum = figure_up_to(shelf, root, &last_day, watch);
-    print!(rt; "{n:>7} {levels:>6} {standing:>8} {sum:>7}")?;
-    let first = find::<DayNumber, Sum>(shelf, root, 0);
-    let last = find::<DayNumber, Sum>(shelf, root, standing.saturating_sub(1));
-    match (first, last) {
-        (Some(first), Some(last)) => println!(rt; " {first:>5} {last:>5}"),
-        _ => println!(rt; "  none  none"),
-    }
+    watch: CellWatch,
 }
 
-// Adds an entry under each of the days until there is no room, and prints a line at each of the sizes. Answers the root.
-fn fill<I: Iterator<Item = i32> + Drop>(
-    rt: &HostRuntime,
-    shelf: &mut [Slot<Sum>],
-    days: I,
-    watch: &CellWatch,
-) -> io::Result<u16>
-    requires { I.can_next days }
-{
-    let mut root = no_root::<DayNumber, Sum>();
-    for (n, day) in (0..=SLOTS).zip(days) {
-        let number = n.saturating_add(1);
-        match add(
-            shelf,
-            root,
-            n,
-            &DayNumber::new(day),
-            operation(number),
+impl WatchedShelf {
+    fn new(watch: CellWatch) -> WatchedShelf {
+        WatchedShelf {
+            slots: [Slot::blank(); SLOTS as usize],
+            root: no_root::<DayNumber, Sum>(),
             watch,
-        ) {
-            Some(top) => root = top,
-            None => println!(rt; "entry {number} is refused")?,
-        }
-        if SIZES.contains(&number) {
-            print_line(rt, shelf, root, number, watch)?;
         }
     }
-    Ok(root)
-}
 
-fn void_every_third(shelf: &mut [Slot<Sum>], root: u16, watch: &CellWatch) {
-    for n in (2..SLOTS).step_by(3) {
-        void::<DayNumber, CellWatch>(shelf, root, n, watch);
+    fn find(&self, k: u16) -> Option<u16> {
+        find::<DayNumber, Sum>(&self.slots, self.root, k)
     }
-}
 
-fn print_answers(
-    rt: &HostRuntime,
-    shelf: &[Slot<Sum>],
-    root: u16,
-    watch: &CellWatch,
-) -> io::Result<()> {
-    for day in [-1, 0, 100, 500, 900, LAST_DAY] {
+    // How many entries stand up to a day, and the sum of their changes.
+    fn standing_and_sum(&self, day: i32) -> (u16, i64) {
         let date = DayNumber::new(day);
-        let standing = count_up_to(shelf, root, &date);
-        let sum = figure_up_to(shelf, root, &date, watch);
-        println!(rt; "up to day {day}: {standing} stand, sum {sum}")?;
+        let standing = count_up_to(&self.slots, self.root, &date);
+        (
+            standing,
+            figure_up_to(&self.slots, self.root, &date, &self.watch),
+        )
     }
-    for i in [0, 2, 511, 1_022, 1_023] {
-        let standing = count_before::<DayNumber, Sum>(shelf, root, i);
-        println!(rt; "before slot {i}: {standing} stand")?;
-    }
-    for k in [1, 100, 341, 682, 683] {
-        match find::<DayNumber, Sum>(shelf, root, k) {
-            Some(i) => println!(rt; "behind {k} others: {i}")?,
-            None => println!(rt; "behind {k} others: none")?,
+
+    fn print_line(&self, rt: &HostRuntime, n: u16) -> io::Result<()> {
+        let levels = level_at(&self.slots, self.root);
+        let (standing, sum) = self.standing_and_sum(LAST_DAY);
+        print!(rt; "{n:>7} {levels:>6} {standing:>8} {sum:>7}")?;
+        match (self.find(0), self.find(standing.saturating_sub(1))) {
+            (Some(first), Some(last)) => println!(rt; " {first:>5} {last:>5}"),
+            _ => println!(rt; "  none  none"),
         }
     }
-    Ok(())
+
+    // Adds an entry under each of the days until there is no room, and prints a line at each of the sizes.
+    fn fill<I: Iterator<Item = i32> + Drop>(&mut self, rt: &HostRuntime, days: I) -> io::Result<()>
+        requires { I.can_next days }
+    {
+        for (n, day) in (0..=SLOTS).zip(days) {
+            let number = n.saturating_add(1);
+            let date = DayNumber::new(day);
+            match add(
+                &mut self.slots,
+                self.root,
+                n,
+                &date,
+                operation(number),
+                &self.watch,
+            ) {
+                Some(top) => self.root = top,
+                None => println!(rt; "entry {number} is refused")?,
+            }
+            if SIZES.contains(&number) {
+                self.print_line(rt, number)?;
+            }
+        }
+        Ok(())
+    }
+
+    fn void_every_third(&mut self) {
+        for n in (2..SLOTS).step_by(3) {
+            void::<DayNumber, CellWatch>(&mut self.slots, self.root, n, &self.watch);
+        }
+    }
+
+    fn print_answers(&self, rt: &HostRuntime) -> io::Result<()> {
+        for day in [-1, 0, 100, 500, 900, LAST_DAY] {
+            let (standing, sum) = self.standing_and_sum(day);
+            println!(rt; "up to day {day}: {standing} stand, sum {sum}")?;
+        }
+        for i in [0, 2, 511, 1_022, 1_023] {
+            let standing = count_before::<DayNumber, Sum>(&self.slots, self.root, i);
+            println!(rt; "before slot {i}: {standing} stand")?;
+        }
+        for k in [1, 100, 341, 682, 683] {
+            match self.find(k) {
+                Some(i) => println!(rt; "behind {k} others: {i}")?,
+                None => println!(rt; "behind {k} others: none")?,
+            }
+        }
+        Ok(())
+    }
 }
 
 // Prints what a shelf answers whose entries come in under these days, one after the other.
@@ -138,21 +148,21 @@ fn print_order<I: Iterator<Item = i32> + Drop>(
     rt: &HostRuntime,
     name: &str,
     days: I,
-    watch: &CellWatch,
+    watch: CellWatch,
 ) -> io::Result<()>
     requires { I.can_next days }
 {
-    let mut shelf = [Slot::<Sum>::blank(); SLOTS as usize];
     println!(rt; "{name}")?;
     println!(rt; "entries levels standing     sum first  last")?;
-    let root = fill(rt, &mut shelf, days, watch)?;
+    let mut shelf = WatchedShelf::new(watch);
+    shelf.fill(rt, days)?;
     println!(rt; "every third entry voided")?;
-    void_every_third(&mut shelf, root, watch);
-    print_line(rt, &shelf, root, SLOTS, watch)?;
-    print_answers(rt, &shelf, root, watch)
+    shelf.void_every_third();
+    shelf.print_line(rt, SLOTS)?;
+    shelf.print_answers(rt)
 }
 
-fn next_number(number: &u32) -> u32 {
+fn next_number(number: u32) -> u32 {
     (number % MODULUS * MULTIPLIER + INCREMENT) % MODULUS
 }
 
@@ -165,16 +175,16 @@ fn main(rt: HostRuntime) -> io::Result<()> {
     let Some(watch) = CellWatch::new(0) else {
         return println!(rt; "a tally has no cell 0");
     };
-    let scrambled = iter::successors(Some(next_number(&1)), |number| Some(next_number(number)));
-    // Each order has one day more than there are slots.
-    print_order(&rt, "rising", 0..=LAST_DAY + 1, &watch)?;
-    print_order(&rt, "falling", (-1..=LAST_DAY).rev(), &watch)?;
-    print_order(&rt, "zigzag", (0..=LAST_DAY + 1).map(zigzag), &watch)?;
-    print_order(&rt, "equal", iter::repeat(500), &watch)?;
+    let scrambled = iter::successors(Some(next_number(1)), |number| Some(next_number(*number)));
+    // Each order has a day more than there are slots, so that an entry is refused.
+    print_order(&rt, "rising", 0..=LAST_DAY + 1, watch)?;
+    print_order(&rt, "falling", (-1..=LAST_DAY).rev(), watch)?;
+    print_order(&rt, "zigzag", (0..=LAST_DAY + 1).map(zigzag), watch)?;
+    print_order(&rt, "equal", iter::repeat(500), watch)?;
     print_order(
         &rt,
         "scrambled",
         scrambled.map(|number| (number / 8) as i32),
-        &watch,
+        watch,
     )
 }
