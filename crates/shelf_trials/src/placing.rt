@@ -47,22 +47,9 @@ fn an_unknown_day_goes_before_the_known_ones(rt: HostRuntime) -> Result<(), Fail
     let mut shelf = [Slot::blank(); 2];
     let known = survey_date(1987, 6, 1)?;
     let unknown = survey_date(1987, 6, 0)?;
-    let root = add(
-        &mut shelf,
-        no_root::<SurveyDate, Sum>(),
-        0,
-        &known,
-        change(0, 1),
-        &watch,
-    );
-    let root = add(
-        &mut shelf,
-        root.unwrap_or(0),
-        1,
-        &unknown,
-        change(0, 1),
-        &watch,
-    );
+    let root = no_root::<SurveyDate, Sum>();
+    let root = add(&mut shelf, root, 0, &known, change(0, 1), &watch).ok_or("refused")?;
+    let root = add(&mut shelf, root, 1, &unknown, change(0, 1), &watch);
     assert_eq!(rt; root, Some(0));
     assert_eq!(rt; count_before::<SurveyDate, Sum>(&shelf, 0, 0), 1);
     assert_eq!(rt; count_up_to(&shelf, 0, &unknown), 1);
