@@ -6,10 +6,6 @@ use slots::Slot;
 use std::test::Fail;
 use watches::{CellWatch, Sum};
 
-const IDLE: Note = Note::Idle;
-
-const MOVED: Note = Note::Moved(7);
-
 // The levels and the standing entries of the tree at that link.
 fn size_at(shelf: &[Slot<Sum>], link: u16) -> Option<(u16, u16)> {
     let top = shelf.get(link as usize)?;
@@ -57,8 +53,8 @@ fn a_number_past_the_shelf_is_neither_voided_nor_noted(rt: HostRuntime) -> Resul
     let before = shelf;
     void::<DayNumber, CellWatch>(&mut shelf, root, 3, &watch);
     void::<DayNumber, CellWatch>(&mut shelf, root, u16::MAX, &watch);
-    set_note::<DayNumber, Sum>(&mut shelf, 3, MOVED);
-    set_note::<DayNumber, Sum>(&mut shelf, u16::MAX, MOVED);
+    set_note::<DayNumber, Sum>(&mut shelf, 3, Some(7));
+    set_note::<DayNumber, Sum>(&mut shelf, u16::MAX, Some(7));
     assert!(rt; shelf == before);
     Ok(())
 }
@@ -81,11 +77,11 @@ fn a_note_changes_nothing_else(rt: HostRuntime) -> Result<(), Fail> {
     let mut shelf = [Slot::blank(); 3];
     let _root = fill_days(&mut shelf, &[3, 1, 2], &cell(0)?)?;
     let mut noted = shelf;
-    noted[1].note = MOVED;
-    set_note::<DayNumber, Sum>(&mut shelf, 1, MOVED);
+    noted[1].note = Some(7);
+    set_note::<DayNumber, Sum>(&mut shelf, 1, Some(7));
     assert!(rt; shelf == noted);
-    noted[1].note = IDLE;
-    set_note::<DayNumber, Sum>(&mut shelf, 1, IDLE);
+    noted[1].note = None;
+    set_note::<DayNumber, Sum>(&mut shelf, 1, None);
     assert!(rt; shelf == noted);
     Ok(())
 }
@@ -97,7 +93,7 @@ fn a_slot_without_an_entry_keeps_its_content(rt: HostRuntime) -> Result<(), Fail
         date: [1, 2, 3, 4],
         operation: change(0, 6),
         standing: true,
-        note: MOVED,
+        note: Some(7),
         left: 0,
         right: 1,
         level: 8,

@@ -24,7 +24,7 @@ use machines::Operation;
 use primitives::CHANGE;
 use shelf::{add, count_before, count_up_to, figure_up_to, find, no_root, void};
 use slots::Slot;
-use slots::figures::level_at;
+use slots::figures::slot_at;
 use std::{io, iter};
 use watches::{CellWatch, Sum};
 
@@ -84,7 +84,7 @@ impl WatchedShelf {
     }
 
     fn print_line(&self, rt: &HostRuntime, n: u16) -> io::Result<()> {
-        let levels = level_at(&self.slots, self.root);
+        let levels = slot_at(&self.slots, self.root).level;
         let (standing, sum) = self.standing_and_sum(LAST_DAY);
         print!(rt; "{n:>7} {levels:>6} {standing:>8} {sum:>7}")?;
         match (self.find(0), self.find(standing.saturating_sub(1))) {
