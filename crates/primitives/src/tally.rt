@@ -15,14 +15,14 @@ pub const CHANGE: u16 = 1;
 // An amount and a count lie between the number and its negative.
 const LARGEST_AMOUNT: i32 = 1_000_000;
 
-const LARGEST_COUNT: i32 = 2_000_000_000;
+const LARGEST_COUNT: i64 = 2_000_000_000;
 
 #[derive(Drop)]
 pub struct Tally {
     counts: Numbers<CHANGE>,
 }
 
-fn is_count(number: i32) -> bool
+fn is_count(number: i64) -> bool
     ensures { result ≡ within 2_000_000_000 number }
 {
     (-LARGEST_COUNT..=LARGEST_COUNT).contains(&number)
@@ -32,7 +32,9 @@ fn is_count(number: i32) -> bool
 fn added(count: i32, amount: i32) -> Option<i32>
     ensures { result ≡ (if within 2_000_000_000 (count +ℤ amount) then Some (count +ℤ amount) else None) }
 {
-    count.checked_add(amount).filter(|sum| is_count(*sum))
+    count
+        .checked_add(amount)
+        .filter(|sum| is_count(i64::from(*sum)))
 }
 
 impl Tally {

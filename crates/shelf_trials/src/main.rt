@@ -94,12 +94,10 @@ impl WatchedShelf {
     }
 
     // Adds an entry under each of the days until there is no room, and prints a line at each of the sizes.
-    fn fill<I: Iterator<Item = i32> + Drop>(&mut self, rt: &HostRuntime, days: I) -> io::Result<()>
-        requires { I.can_next days }
-    {
+    fn fill(&mut self, rt: &HostRuntime, days: &[i32]) -> io::Result<()> {
         for (n, day) in (0..=SLOTS).zip(days) {
             let number = n.saturating_add(1);
-            let date = DayNumber::new(day);
+            let date = DayNumber::new(*day);
             match add(
                 &mut self.slots,
                 self.root,
@@ -144,14 +142,7 @@ impl WatchedShelf {
 }
 
 // Prints what a shelf answers whose entries come in under these days, one after the other.
-fn print_order<I: Iterator<Item = i32> + Drop>(
-    rt: &HostRuntime,
-    name: &str,
-    days: I,
-    watch: CellWatch,
-) -> io::Result<()>
-    requires { I.can_next days }
-{
+fn print_order(rt: &HostRuntime, name: &str, days: &[i32], watch: CellWatch) -> io::Result<()> {
     println!(rt; "{name}")?;
     println!(rt; "entries levels standing     sum first  last")?;
     let mut shelf = WatchedShelf::new(watch);
@@ -175,16 +166,21 @@ fn main(rt: HostRuntime) -> io::Result<()> {
     let Some(watch) = CellWatch::new(0) else {
         return println!(rt; "a tally has no cell 0");
     };
-    let scrambled = iter::successors(Some(next_number(1)), |number| Some(next_number(*number)));
+    let heap = rt.alloc();
     // Each order has a day more than there are slots, so that an entry is refused.
-    print_order(&rt, "rising", 0..=LAST_DAY + 1, watch)?;
-    print_order(&rt, "falling", (-1..=LAST_DAY).rev(), watch)?;
-    print_order(&rt, "zigzag", (0..=LAST_DAY + 1).map(zigzag), watch)?;
-    print_order(&rt, "equal", iter::repeat(500), watch)?;
-    print_order(
-        &rt,
-        "scrambled",
-        scrambled.map(|number| (number / 8) as i32),
-        watch,
-    )
+    let rising: Vec<i32> = (0..=LAST_DAY + 1).collect(heap)?;
+    let falling: Vec<i32> = (-1..=LAST_DAY).rev().collect(heap)?;
+    let zigzag: Vec<i32> = (0..=LAST_DAY + 1).map(zigzag).collect(heap)?;
+    let equal = [500; SLOTS as usize + 1];
+    let scrambled: Vec<i32> = iter::successors(
+        Some(next_number(1)),
+        |number| Some(next_number(*number)),
+    ).map(|number| (number / 8) as i32)
+        .take(SLOTS as usize + 1)
+        .collect(heap)?;
+    print_order(&rt, "rising", &rising, watch)?;
+    print_order(&rt, "falling", &falling, watch)?;
+    print_order(&rt, "zigzag", &zigzag, watch)?;
+    print_order(&rt, "equal", &equal, watch)?;
+    print_order(&rt, "scrambled", &scrambled, watch)
 }
