@@ -16,7 +16,7 @@ pub enum Fault {
 }
 
 impl Fault {
-    // The refusal as an answer; for want of memory there is none.
+    // The refusal as an answer; for want of memory there is none. It is a method and no `From`, since no type of the result is of this crate.
     pub fn answer(self) -> Result<Result<Accepted, Refusal>, AllocError>
         ensures { result_ok result ≡ refusal_in self }
     {

@@ -14,7 +14,7 @@ pub enum Refusal {
 }
 
 impl Refusal {
-    // The number under which it is refused.
+    // The number under which it is refused, for those who read it: the code goes by the enum.
     pub fn number(&self) -> u16
         ensures { result ≡ number self.now }
     {

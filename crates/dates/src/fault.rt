@@ -9,7 +9,7 @@ use std::fmt;
 pub struct NoSuchDate;
 
 impl NoSuchDate {
-    // The number of the refusal.
+    // The number of the refusal, for those who read it: the code goes by the type.
     pub fn number(&self) -> u16
         ensures { result ≡ no_such_date.number }
     {

@@ -30,7 +30,8 @@ pub struct Queue {
     ghost few: { Few jobs.items },
 }
 
-// The four tests stay apart: one function in place of them would take each of these numbers as a parameter, and say less.
+// The four tests stay apart: one function in place of them would take the code, the number and its range as parameters, and each call of it
+// would say again what a name says here.
 pub fn is_order(operation: &Operation) -> bool
     ensures { result ≡ is_order operation.now }
 {
