@@ -1,5 +1,6 @@
 // Scripts that are read, and the calls that they make.
 use crate::runs::{operation, question};
+use crate::survey_dates::date;
 use book::Call;
 use dates::{DayNumber, NoSuchDate, SurveyDate};
 use machines::{Operation, Question};
@@ -10,10 +11,6 @@ use std::test::Fail;
 
 fn day(number: i32) -> DayNumber {
     DayNumber::new(number)
-}
-
-fn survey(year: u16, month: u8, day: u8) -> Result<SurveyDate, Fail> {
-    SurveyDate::new(year, month, day).map_err(Fail::new)
 }
 
 fn enter<D>(number: usize, date: D, operation: Operation) -> Line<D> {
@@ -45,7 +42,7 @@ fn read_days(heap: Global, text: &str) -> Result<Vec<Line<DayNumber>>, Fail> {
     }
 }
 
-// The lines of a script of survey dates.
+// The lines of a script of survey dates. It stays apart from the one above: each takes another variant, with lines of another type.
 fn read_surveys(heap: Global, text: &str) -> Result<Vec<Line<SurveyDate>>, Fail> {
     match parse(heap, text).map_err(Fail::new)? {
         Script::OfDays(_) => Err(Fail::new("a script of days")),
@@ -183,10 +180,10 @@ fn the_parts_of_a_survey_date_may_be_left_out(rt: HostRuntime) -> Result<(), Fai
         &rt,
         lines.as_slice(),
         &[
-            enter(2, survey(1987, 0, 0)?, operation(3, 0, 0)),
-            enter(3, survey(1987, 6, 0)?, operation(3, 0, 0)),
-            enter(4, survey(1987, 6, 0)?, operation(3, 0, 0)),
-            ask(5, survey(2000, 2, 29)?, question(2, 0, 0)),
+            enter(2, date(1987, 0, 0)?, operation(3, 0, 0)),
+            enter(3, date(1987, 6, 0)?, operation(3, 0, 0)),
+            enter(4, date(1987, 6, 0)?, operation(3, 0, 0)),
+            ask(5, date(2000, 2, 29)?, question(2, 0, 0)),
         ],
     );
     Ok(())
@@ -209,7 +206,7 @@ fn a_date_that_does_not_exist_is_no_error_of_the_script(rt: HostRuntime) -> Resu
             no_such_date(2),
             no_such_date(3),
             no_such_date(4),
-            enter(5, survey(1987, 0, 0)?, operation(3, 0, 0)),
+            enter(5, date(1987, 0, 0)?, operation(3, 0, 0)),
         ],
     );
     Ok(())

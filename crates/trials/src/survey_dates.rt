@@ -3,7 +3,7 @@ use dates::{Date, SurveyDate};
 use std::process::Abort;
 use std::test::Fail;
 
-fn date(year: u16, month: u8, day: u8) -> Result<SurveyDate, Fail> {
+pub(crate) fn date(year: u16, month: u8, day: u8) -> Result<SurveyDate, Fail> {
     SurveyDate::new(year, month, day).map_err(Fail::new)
 }
 
