@@ -1,5 +1,6 @@
 pub mod Board
 pub mod Bounded
+pub mod Forms
 pub mod Numbers
 pub mod Queue
 pub mod Ranges

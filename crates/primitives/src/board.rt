@@ -3,6 +3,7 @@ ghost use Rattle.primitives.specs.Board.{board, plain_board, board_bound};
 ghost use Rattle.primitives.specs.Steps.{bounded_lawful};
 ghost use Rattle.primitives.specs.Boards.{board_lawful};
 
+use crate::form::Form;
 use crate::numbers::{Numbers, PLACES};
 use machines::{Machine, Note, Operation, Question};
 use std::alloc::{AllocError, Global};
@@ -10,7 +11,12 @@ use std::alloc::{AllocError, Global};
 // The code of the operation `set`, whose amount is the new status of a path, and of the question for the status of a path.
 pub const SET: u16 = 4;
 
-const LAST_STATUS: i32 = 7;
+const SETS: Form = Form {
+    code: SET,
+    places: PLACES,
+    least: 0,
+    most: 7,
+};
 
 #[derive(Drop)]
 pub struct Board {
@@ -31,9 +37,7 @@ impl Machine for Board {
     }
 
     fn knows(operation: &Operation) -> bool {
-        operation.code == SET
-            && (operation.place as usize) < PLACES
-            && (0..=LAST_STATUS).contains(&operation.amount)
+        SETS.has_operation(operation)
     }
 
     fn answers(question: &Question) -> bool {

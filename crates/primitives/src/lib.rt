@@ -2,6 +2,7 @@
 #![tactic(auto)]
 
 pub mod board;
+mod form;
 mod numbers;
 pub mod queue;
 pub mod tally;

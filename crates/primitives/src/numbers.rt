@@ -2,14 +2,15 @@
 ghost use Rattle.std.specs.Prelude.{◌≡◌, length, replicate, pos};
 ghost use Rattle.primitives.specs.Numbers.{asks_number, number_asked};
 
+use crate::form::Form;
 use machines::Question;
 
-pub(crate) const PLACES: usize = 64;
+pub(crate) const PLACES: u16 = 64;
 
 // The numbers of the places, all 0 at first. The question of the code CODE reads one of them.
 #[derive(Drop)]
 pub(crate) struct Numbers<const CODE: u16> {
-    pub(crate) items: [i32; PLACES],
+    pub(crate) items: [i32; PLACES as usize],
     ghost long: { length items ≡ 64 },
 }
 
@@ -17,14 +18,22 @@ impl<const CODE: u16> Numbers<CODE> {
     pub(crate) fn new() -> Numbers<CODE>
         ensures { result.items ≡ replicate 64 (pos 0) }
     {
-        Numbers { items: [0; PLACES] }
+        Numbers {
+            items: [0; PLACES as usize],
+        }
     }
 
     // Whether the question asks for one of the numbers.
     pub(crate) fn answers(question: &Question) -> bool
         ensures { result ≡ asks_number CODE question.now }
     {
-        question.code == CODE && (question.place as usize) < PLACES && question.index == 0
+        let form = Form {
+            code: CODE,
+            places: PLACES,
+            least: 0,
+            most: 0,
+        };
+        form.has_question(question)
     }
 
     // The number that the question asks for; none where it asks for none of them.

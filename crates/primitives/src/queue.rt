@@ -6,6 +6,7 @@ ghost use Rattle.primitives.specs.Queue.{queue, is_order, is_draw, asks_length, 
 ghost use Rattle.primitives.specs.Steps.{bounded_lawful};
 ghost use Rattle.primitives.specs.Queues.{queue_lawful};
 
+use crate::form::Form;
 use machines::{Machine, Note, Operation, Question};
 use std::alloc::{AllocError, Global};
 use std::collections::VecDeque;
@@ -18,9 +19,33 @@ pub const DRAW: u16 = 3;
 
 const MOST_JOBS: usize = 1024;
 
-const LAST_JOB: i32 = 999_999;
+const ORDERS: Form = Form {
+    code: ORDER,
+    places: 1,
+    least: 0,
+    most: 999_999,
+};
 
-const LAST_INDEX: i32 = 1023;
+const DRAWS: Form = Form {
+    code: DRAW,
+    places: 1,
+    least: 0,
+    most: 0,
+};
+
+const LENGTHS: Form = Form {
+    code: ORDER,
+    places: 1,
+    least: 0,
+    most: 0,
+};
+
+const JOBS: Form = Form {
+    code: DRAW,
+    places: 1,
+    least: 0,
+    most: 1_023,
+};
 
 // The room for all jobs is taken once, in `new`.
 #[derive(Drop)]
@@ -30,30 +55,28 @@ pub struct Queue {
     ghost few: { Few jobs.items },
 }
 
-// The four tests stay apart: one function in place of them would take the code, the number and its range as parameters, and each call of it
-// would say again what a name says here.
 pub fn is_order(operation: &Operation) -> bool
     ensures { result ≡ is_order operation.now }
 {
-    operation.code == ORDER && operation.place == 0 && (0..=LAST_JOB).contains(&operation.amount)
+    ORDERS.has_operation(operation)
 }
 
 pub fn is_draw(operation: &Operation) -> bool
     ensures { result ≡ is_draw operation.now }
 {
-    operation.code == DRAW && operation.place == 0 && operation.amount == 0
+    DRAWS.has_operation(operation)
 }
 
 fn asks_length(question: &Question) -> bool
     ensures { result ≡ asks_length question.now }
 {
-    question.code == ORDER && question.place == 0 && question.index == 0
+    LENGTHS.has_question(question)
 }
 
 fn asks_job(question: &Question) -> bool
     ensures { result ≡ asks_job question.now }
 {
-    question.code == DRAW && question.place == 0 && (0..=LAST_INDEX).contains(&question.index)
+    JOBS.has_question(question)
 }
 
 impl Queue {

@@ -5,6 +5,7 @@ ghost use Rattle.primitives.specs.Tally.{tally, moves, sum, plain_tally, tally_b
 ghost use Rattle.primitives.specs.Steps.{bounded_lawful};
 ghost use Rattle.primitives.specs.Tallies.{tally_lawful};
 
+use crate::form::Form;
 use crate::numbers::{Numbers, PLACES};
 use machines::{Machine, Note, Operation, Question};
 use std::alloc::{AllocError, Global};
@@ -12,9 +13,14 @@ use std::alloc::{AllocError, Global};
 // The code of the operation `change`, which adds its amount to a cell, and of the question for the count of a cell.
 pub const CHANGE: u16 = 1;
 
-// An amount and a count lie between the number and its negative.
-const LARGEST_AMOUNT: i32 = 1_000_000;
+const CHANGES: Form = Form {
+    code: CHANGE,
+    places: PLACES,
+    least: -1_000_000,
+    most: 1_000_000,
+};
 
+// A count lies between the number and its negative.
 const LARGEST_COUNT: i64 = 2_000_000_000;
 
 #[derive(Drop)]
@@ -66,9 +72,7 @@ impl Machine for Tally {
     }
 
     fn knows(operation: &Operation) -> bool {
-        operation.code == CHANGE
-            && (operation.place as usize) < PLACES
-            && (-LARGEST_AMOUNT..=LARGEST_AMOUNT).contains(&operation.amount)
+        CHANGES.has_operation(operation)
     }
 
     fn answers(question: &Question) -> bool {
