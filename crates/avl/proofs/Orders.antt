@@ -1,8 +1,8 @@
 -- Book order: it stands, there is no other, where the next entry goes, and what is dated no later stands in front.
 use Rattle.std.proofs.Common.{◌≡◌, ℕ, zero, suc, ◌<◌, Bool, true, false, ◌⊎◌, ◌↔◌, List, [], ◌∷◌, sym, refl, inl, inr, ⊎_elim, arith}
 use Rattle.std.specs.List.{AllByRecursion}
-use Rattle.std.proofs.ByRecursion.{All-weaker}
 use Rattle.std.proofs.lemmas.Bool.{cond_both}
+use Rattle.avl.proofs.Lists.{weaker}
 use Rattle.avl.specs.Claims.{OrderStands, OrderIsOne, OrderGrows, FrontIsPrefix}
 use Rattle.avl.specs.Book.{Order, Sorted, In, Before, book_order, dated_after}
 use Rattle.avl.specs.Placing.{placed, Onward}
@@ -67,7 +67,7 @@ module _ {D : Type 0} (o : Order D) (date : ℕ → D) where
   sorted_onward : (day : D) (xs : List ℕ) → Sorted (Before o.earlier date) xs → Onward (dated_after o.earlier date day) xs
   sorted_onward day [] h = tt
   sorted_onward day (x ∷ xs) h =
-      (λ e. All-weaker (Before o.earlier date x) (λ j. dated_after o.earlier date day j ≡ true) (λ j. later_too day x j e) xs h.0, sorted_onward day xs h.1)
+      (λ e. weaker (Before o.earlier date x) (λ j. dated_after o.earlier date day j ≡ true) (λ j. later_too day x j e) xs h.0, sorted_onward day xs h.1)
 
   -- not dated before an earlier arrival, a slot stands behind it
   stands_behind : (i n : ℕ) → i < n → o.earlier (date n) (date i) ≡ false → Before o.earlier date i n
@@ -77,14 +77,14 @@ module _ {D : Type 0} (o : Order D) (date : ℕ → D) where
   placed_sorted n [] below h = (tt, tt)
   placed_sorted n (x ∷ xs) below h =
       cond_both (o.earlier (date n) (date x)) _ _ (Sorted (Before o.earlier date))
-      (λ e. ((inl e, All-weaker (λ i. dated_after o.earlier date (date n) i ≡ true) (Before o.earlier date n) (λ i. inl) xs ((sorted_onward (date n) (x ∷ xs) h).0 e)), h))
+      (λ e. ((inl e, weaker (λ i. dated_after o.earlier date (date n) i ≡ true) (Before o.earlier date n) (λ i. inl) xs ((sorted_onward (date n) (x ∷ xs) h).0 e)), h))
       (λ e. (all_placed (dated_after o.earlier date (date n)) n (Before o.earlier date x) xs (stands_behind x n below.0 e) h.0, placed_sorted n xs below.1 h.1))
 
   pub all_below : (n : ℕ) → AllByRecursion (λ i. i < n) (book_order o.earlier date n)
   all_below zero = tt
   all_below (suc n) =
       all_placed (dated_after o.earlier date (date n)) n (λ i. i < suc n) (book_order o.earlier date n) (omega arith)
-      (All-weaker (λ i. i < n) (λ i. i < suc n) (λ i lt. omega arith) (book_order o.earlier date n) (all_below n))
+      (weaker (λ i. i < n) (λ i. i < suc n) (λ i lt. omega arith) (book_order o.earlier date n) (all_below n))
 
   pub order_sorted : (n : ℕ) → Sorted (Before o.earlier date) (book_order o.earlier date n)
   order_sorted zero = tt
@@ -127,4 +127,4 @@ order_same o f g (suc n) h =
     let last = h n (omega arith) in
     rw (order_same o f g n (λ i lt. h i (omega arith)))
     (placed_same (dated_after o.earlier f (f n)) (dated_after o.earlier g (g n)) n (book_order o.earlier g n)
-    (All-weaker (λ i. i < n) (λ i. dated_after o.earlier f (f n) i ≡ dated_after o.earlier g (g n) i) (λ i lt. cc (h i (omega arith))) (book_order o.earlier g n) (all_below o g n)))
+    (weaker (λ i. i < n) (λ i. dated_after o.earlier f (f n) i ≡ dated_after o.earlier g (g n) i) (λ i lt. cc (h i (omega arith))) (book_order o.earlier g n) (all_below o g n)))

@@ -4,7 +4,7 @@ use Rattle.std.proofs.Common.{sym, ap, ◌∙◌, arith, rules}
 use Rattle.std.proofs.Math.Bool.{Bool-set}
 use Rattle.std.specs.Ordering.{nat_cmp, ordering_then}
 use mathlib.Core.HLevel.{is_prop→PathP}
-use Rattle.std.proofs.ByRecursion.{All-get_or}
+use Rattle.std.proofs.lemmas.List.Elements.{All-from_recursion}
 use Rattle.std.proofs.lemmas.Bool.{false≢true}
 use Rattle.std.proofs.lemmas.Bool.Decides.{nat_tests}
 use Rattle.dates.specs.Calendar.{exists, leap, month_lengths}
@@ -48,8 +48,8 @@ bytes_form d a b m n fits h =
 
 -- no month is longer than 31 days
 short_months : (leap_year : Bool) (i : ℕ) → i < 12 → slice_index (month_lengths leap_year) i ≤ 31
-short_months true i h = All-get_or (λ n. n ≤ 31) (month_lengths true) i 0 h (search rules)
-short_months false i h = All-get_or (λ n. n ≤ 31) (month_lengths false) i 0 h (search rules)
+short_months true i h = All-from_recursion (λ n. n ≤ 31) (month_lengths true) (search rules) i 0 h
+short_months false i h = All-from_recursion (λ n. n ≤ 31) (month_lengths false) (search rules) i 0 h
 
 bounds : (d : SurveyDate) → (d.year ≤ 9999) × (d.month ≤ 12) × (d.day ≤ 31)
 bounds d =

@@ -2,7 +2,6 @@
 use Rattle.std.proofs.Common.{◌≡◌, ℕ, ◌<◌, ◌≤◌, Bool, true, not, ◌⊎◌, List, [], ◌∷◌, length, Ok, filter, Option, sym, refl, ap, ◌∙◌, arith}
 use mathlib.Core.Bool.{not-not}
 use Rattle.std.specs.List.{slice_get, AllByRecursion}
-use Rattle.std.proofs.ByRecursion.{All-weaker}
 use Rattle.std.proofs.lemmas.List.Sums.{sum_by-cons}
 use Rattle.std.proofs.lemmas.Bool.Decides.{nat_tests}
 use Rattle.avl.specs.Book.{Sorted, Before, comes_before}
@@ -12,6 +11,7 @@ use Rattle.avl.specs.Tree.{inorder}
 use Rattle.avl.proofs.BookTrees.{length_order}
 use Rattle.avl.proofs.Depths.{size_is_length}
 use Rattle.avl.proofs.Joins.{front_joins_as_list}
+use Rattle.avl.proofs.Lists.{weaker}
 use Rattle.avl.proofs.Orders.{all_below}
 use Rattle.dates.specs.Model.{DateModel, Lawful}
 use Rattle.machines.specs.declared.operation.Operation.{Operation}
@@ -43,7 +43,7 @@ module _ {D : Type 0} (dates : DateModel D) (law : Lawful dates) (day : D) (es :
   pub behind_onward : (number : ℕ) (xs : List ℕ) → Sorted (Before (sooner dates) (dating dates es)) xs → Onward (behind dates day number es) xs
   behind_onward number [] h = tt
   behind_onward number (x ∷ xs) h =
-      (λ e. All-weaker (Before (sooner dates) (dating dates es) x) (λ j. behind dates day number es j ≡ true) (λ j. behind_later number x j e) xs h.0, behind_onward number xs h.1)
+      (λ e. weaker (Before (sooner dates) (dating dates es) x) (λ j. behind dates day number es j ≡ true) (λ j. behind_later number x j e) xs h.0, behind_onward number xs h.1)
 
   -- behind the last place of a day is what is dated past it
   last_place : (i : ℕ) → i < 65536 → not (behind dates day 65536 es i) ≡ not (dated_past dates day es i)
@@ -52,12 +52,12 @@ module _ {D : Type 0} (dates : DateModel D) (law : Lawful dates) (day : D) (es :
   pub front_up_to : (n : ℕ) → n ≤ 1024 → front (behind dates day 65536 es) (ordered dates es n) ≡ up_to dates day es n
   front_up_to n few =
       kept_same (λ i. not (behind dates day 65536 es i)) (λ i. not (dated_past dates day es i)) (ordered dates es n)
-      (All-weaker (λ i. i < n) (λ i. not (behind dates day 65536 es i) ≡ not (dated_past dates day es i)) (λ i lt. last_place i (omega arith)) (ordered dates es n) (all_below (by_dating dates law) (dating dates es) n))
+      (weaker (λ i. i < n) (λ i. not (behind dates day 65536 es i) ≡ not (dated_past dates day es i)) (λ i lt. last_place i (omega arith)) (ordered dates es n) (all_below (by_dating dates law) (dating dates es) n))
 
   pub front_before : (i n : ℕ) → dating dates es i ≡ Ok day → front (behind dates day i es) (ordered dates es n) ≡ before dates i es n
   front_before i n dated =
       kept_same (λ j. not (behind dates day i es j)) (λ j. comes_before (sooner dates) (dating dates es) j i) (ordered dates es n)
-      (All-weaker (λ j. j < n) (λ j. not (behind dates day i es j) ≡ comes_before (sooner dates) (dating dates es) j i)
+      (weaker (λ j. j < n) (λ j. not (behind dates day i es j) ≡ comes_before (sooner dates) (dating dates es) j i)
       (λ j lt. not-not (ahead dates (dating dates es j) j (Ok day) i) ∙ ap (λ x. ahead dates (dating dates es j) j x i) (sym dated))
       (ordered dates es n) (all_below (by_dating dates law) (dating dates es) n))
 
