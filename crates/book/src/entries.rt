@@ -22,6 +22,7 @@ pub struct Entry<D> {
 
 // The entries of a book in book order: by date, and those of one date by number. A caller sees the list alone, so the
 // clauses `ordered` say of it what `invariant` does.
+// The invariant reads the order of the dates, so the type names the bound that each of its functions has.
 #[derive(Drop)]
 pub struct Entries<D: Date> {
     entries: Vec<Entry<D>>,

@@ -16,7 +16,8 @@ pub enum Fault {
 }
 
 impl Fault {
-    // The refusal as an answer; for want of memory there is none. It is a method and no `From`, since no type of the result is of this crate.
+    // The refusal as an answer; for want of memory there is none. It is a method and no `From`: for
+    // `into` a caller would have to write this long type.
     pub fn answer(self) -> Result<Result<Accepted, Refusal>, AllocError>
         ensures { result_ok result ≡ refusal_in self }
     {
@@ -27,6 +28,7 @@ impl Fault {
     }
 }
 
+// The conversions are written out, since a clause names the error that `?` makes, and those that a derive writes have no contract.
 impl From<MachineFault> for Fault {
     ghost from_gives = { λ fault r. r ≡ IsRefused (Machine fault) };
 

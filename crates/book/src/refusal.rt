@@ -35,6 +35,7 @@ impl Refusal {
     }
 }
 
+// The conversions are written out, since a clause names what they make, and those that a derive writes have no contract.
 impl From<NoSuchDate> for Refusal {
     ghost from_gives = { λ fault r. r ≡ Date fault };
 

@@ -1,9 +1,11 @@
--- The laws of `before`.
+-- The laws of `before`, and what a comparison place by place answers.
 use Rattle.std.specs.Prelude.{◌≡◌, ℕ, true, false, List, [], ◌∷◌, refl}
 use Rattle.std.proofs.Common.{sym, ap₂, arith}
 use Rattle.std.proofs.lemmas.Bool.{false≢true}
 use Rattle.std.proofs.lemmas.Bool.Decides.{nat_tests}
-use Rattle.dates.specs.Order.{before}
+use Rattle.std.specs.Ordering.{nat_cmp}
+use Rattle.std.specs.Cmp.Lexicographic.{slice_cmp}
+use Rattle.dates.specs.Order.{before, ranked}
 
 pub before_one_way : (xs ys : List ℕ) → before xs ys ≡ true → before ys xs ≡ false
 before_one_way [] [] h = refl
@@ -28,3 +30,10 @@ before_same (x ∷ xs) (y ∷ ys) h k =
     let under : before xs ys ≡ false = grind (arith, nat_tests) in
     let over : before ys xs ≡ false = grind (arith, nat_tests) in
     ap₂ ◌∷◌ first (before_same xs ys under over)
+
+-- what `cmp` answers of two lists of numbers
+pub lex_ranked : (xs ys : List ℕ) → slice_cmp nat_cmp xs ys ≡ ranked (before xs ys) (before ys xs)
+lex_ranked [] [] = refl
+lex_ranked [] (y ∷ ys) = refl
+lex_ranked (x ∷ xs) [] = refl
+lex_ranked (x ∷ xs) (y ∷ ys) = let same = lex_ranked xs ys in grind (arith, nat_tests)

@@ -3,6 +3,8 @@ use Rattle.std.specs.Prelude.{◌≡◌, ℕ, ◌+◌, ◌-◌, ◌*◌, ◌/◌
 use Rattle.std.proofs.Common.{sym, ap, ◌∙◌, arith, rules}
 use Rattle.std.proofs.Math.Bool.{Bool-set}
 use Rattle.std.specs.Ordering.{nat_cmp, ordering_then}
+use Rattle.std.specs.declared.cmp.Ordering.{Ordering}
+use Rattle.std.specs.declared.cmp.Ordering.TheVariants.{Less, Equal, Greater}
 use mathlib.Core.HLevel.{is_prop→PathP}
 use Rattle.std.proofs.lemmas.List.Elements.{All-from_recursion}
 use Rattle.std.proofs.lemmas.Bool.{false≢true}
@@ -12,7 +14,7 @@ use Rattle.dates.specs.Model.{Lawful, compared}
 use Rattle.dates.specs.Survey.{date_if, dated, places, survey_dates}
 use Rattle.dates.specs.declared.survey.SurveyDate.{SurveyDate}
 use Rattle.dates.specs.FourBytes.{by_four}
-use Rattle.dates.specs.Orders.{before_one_way, before_same, before_transitive}
+use Rattle.dates.specs.Orders.{before_one_way, before_same, before_transitive, lex_ranked}
 
 -- the fact in a date's ghost field has one proof, so its numbers are all that tells a date from another
 same_date : (a b : SurveyDate) → a.year ≡ b.year → a.month ≡ b.month → a.day ≡ b.day → a ≡ b
@@ -57,9 +59,15 @@ bounds d =
     let real = d.real in
     (grind (arith, nat_tests), grind (arith, nat_tests), grind (arith, nat_tests))
 
--- the answer of comparing by the year, then the month, then the day
+then_equal : (o : Ordering) → o ≡ ordering_then o Equal
+then_equal Less = refl
+then_equal Equal = refl
+then_equal Greater = refl
+
+-- comparing by the year, then the month, then the day answers what comparing the three as a list does
 pub survey_ordered : (a b : SurveyDate) → ordering_then (nat_cmp a.year b.year) (ordering_then (nat_cmp a.month b.month) (nat_cmp a.day b.day)) ≡ compared survey_dates a b
-survey_ordered a b = grind (arith, nat_tests)
+survey_ordered a b =
+    ap (λ last. ordering_then (nat_cmp a.year b.year) (ordering_then (nat_cmp a.month b.month) last)) (then_equal (nat_cmp a.day b.day)) ∙ lex_ranked (places a) (places b)
 
 pub survey_lawful : Lawful survey_dates
 survey_lawful = record {

@@ -9,8 +9,7 @@ pub trait Date: Copy + Ord {
     // The number, the order and the form of the kind.
     ghost model: { DateModel Self };
 
-    // The number of the kind, under which it is deposited. The type is what the code goes by; there is no enum of the kinds, since any type that
-    // keeps the laws may be one.
+    // The number of the kind. The code goes by the type, and there is no enum of the kinds: any type that keeps the laws may be one.
     fn kind() -> u16
         ensures { result ≡ model.kind };
 

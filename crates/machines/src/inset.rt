@@ -63,6 +63,7 @@ impl<M: Machine, const BASE: u16> Machine for Inset<M, BASE> {
         }
     }
 
+    // As `step`, of the other type: the interface has a method for each.
     fn read(&self, question: &Question) -> Option<i64> {
         self.machine.read(&lower_question(question, BASE)?)
     }

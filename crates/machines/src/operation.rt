@@ -11,7 +11,7 @@ pub struct Operation {
     pub amount: i32,
 }
 
-// What is asked of a machine: the code says what is read, the place and the index where.
+// What is asked of a machine: the code says what is read, the place and the index where. The code is a number for the reason given above.
 #[derive(Clone, Copy, PartialEq, Eq)]
 pub struct Question {
     pub code: u16,

@@ -29,7 +29,8 @@ impl<F: Machine, S: Machine> Machine for Pair<F, S> {
         F::knows(operation) || S::knows(operation)
     }
 
-    // As `knows`, of the other type: the interface has a method for each.
+    // As `knows`, of the other type. The interface has a method of each kind for operations and for questions, so that `step` and `read` look
+    // alike too.
     fn answers(question: &Question) -> bool {
         F::answers(question) || S::answers(question)
     }

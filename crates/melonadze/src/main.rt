@@ -16,10 +16,7 @@ fn read_script(rt: &HostRuntime) -> anyhow::Result<String> {
     if arguments.next().is_some() {
         return Err(anyhow!("usage: melonadze [SCRIPT]"));
     }
-    match fs::read_to_string(rt, path.as_str()) {
-        Ok(text) => Ok(text),
-        Err(error) => Err(anyhow!(format!(in rt.alloc(); "cannot read {path}: {error}")?)),
-    }
+    fs::read_to_string(rt, path.as_str()).map_err(|error| anyhow!("cannot read {path}: {error}"))
 }
 
 fn work_off(rt: &HostRuntime) -> anyhow::Result<()> {

@@ -28,6 +28,7 @@ impl Form {
         self.has(operation.code, operation.place, operation.amount)
     }
 
+    // As `has_operation`, of the other type; what they share is `has`.
     pub(crate) fn has_question(&self, question: &Question) -> bool
         ensures { result ≡ has_form self.now question.now.code question.now.place question.now.index }
     {

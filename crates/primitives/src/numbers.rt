@@ -5,7 +5,8 @@ ghost use Rattle.primitives.specs.Numbers.{asks_number, number_asked};
 use crate::form::Form;
 use machines::Question;
 
-pub(crate) const PLACES: u16 = 64;
+// How many cells a tally has, and how many paths a board.
+pub const PLACES: u16 = 64;
 
 // The numbers of the places, all 0 at first. The question of the code CODE reads one of them.
 #[derive(Drop)]
@@ -40,8 +41,9 @@ impl<const CODE: u16> Numbers<CODE> {
     pub(crate) fn read(&self, question: &Question) -> Option<i64>
         ensures { result ≡ number_asked CODE self.now.items question.now }
     {
+        // The `if` stays: in a closure of `then` the index is not known to be below 64.
         if Self::answers(question) {
-            Some(self.items[question.place as usize] as i64)
+            Some(i64::from(self.items[question.place as usize]))
         } else {
             None
         }

@@ -84,7 +84,7 @@ impl Queue {
     fn job(&self, index: usize) -> Option<i64>
         ensures { result ≡ slice_get self.now.jobs.items index }
     {
-        self.jobs.get(index).map(|job| *job as i64)
+        self.jobs.get(index).map(|job| i64::from(*job))
     }
 
     fn order(&mut self, job: i32) -> Note

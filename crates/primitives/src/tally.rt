@@ -48,7 +48,7 @@ impl Tally {
     fn changed(&self, operation: &Operation) -> Option<i32>
         ensures { result ≡ (if moves self.now.counts.items operation.now then Some (sum self.now.counts.items operation.now) else None) }
     {
-        if !<Tally as Machine>::knows(operation) {
+        if !Tally::knows(operation) {
             return None;
         }
         added(

@@ -131,8 +131,3 @@ module _ (ls : List (Bor (List ℕ))) (i : ℕ) (d : Bor (List ℕ)) (within : i
 
       pub calls_some : (call : Result (Call D) NoSuchDate) → c ≡ Some call → next ≡ found ++ (record { number = i + 1; call = call } ∷ []) → whole ≡ then (calls written (i + 1) (spelled (drop (i + 1) ls))) (λ rest. Ok (next ++ rest))
       calls_some call is more = rw more (goes_on ∙ ap after is ∙ put_some (i + 1) found call (calls written (i + 1) (spelled (drop (i + 1) ls))))
-
--- a line that has words is a call
-pub call_some : {D : Type 0} (written : List ℕ → Option (Result D NoSuchDate)) (ws : List (Bor (List ℕ))) → 1 ≤ length ws → line_call written (spelled ws) ≡ then (call written (spelled ws)) (λ c. Ok (Some c))
-call_some written [] h = absurd (omega arith)
-call_some written (a ∷ ws) h = refl

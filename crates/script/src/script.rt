@@ -17,6 +17,7 @@ use words::{Reason, lines_of, words_of};
 
 impl Error for ScriptFault {}
 
+// The conversions are written out, since a clause names the error that `?` makes, and those that a derive writes have no contract.
 impl From<AllocError> for ScriptFault {
     ghost from_gives = { λ _ fault. fault ≡ NoMemory };
 
@@ -60,7 +61,7 @@ fn read_setting(words: &[&str]) -> Result<Setting, Reason>
 {
     match words {
         [] => Ok(Setting::Blank),
-        ["dates", kind @ ..] => Ok(Setting::Named(read_kind(kind)?)),
+        ["dates", kind @ ..] => read_kind(kind).map(Setting::Named),
         _ => Ok(Setting::Begun),
     }
 }
@@ -94,7 +95,8 @@ fn read_line<D: WrittenDate>(words: &[&str]) -> Result<Option<Result<Call<D>, No
     }
 }
 
-// The calls from a line on.
+// The calls from a line on. A line is read here as in `read_head`: one function for both, over a closure that reads the words, was tried, and
+// the check does not cover a call of it.
 fn read_calls<D: WrittenDate>(
     heap: Global,
     lines: &[&str],
@@ -121,7 +123,7 @@ pub fn parse(heap: Global, text: &str) -> Result<Script, ScriptFault>
     let lines = lines_of(heap, text)?;
     let lines = lines.as_slice();
     match read_head(heap, lines)? {
-        (Kind::Days, from) => Ok(Script::OfDays(read_calls(heap, lines, from)?)),
-        (Kind::Survey, from) => Ok(Script::OfSurveys(read_calls(heap, lines, from)?)),
+        (Kind::Days, from) => read_calls(heap, lines, from).map(Script::OfDays),
+        (Kind::Survey, from) => read_calls(heap, lines, from).map(Script::OfSurveys),
     }
 }

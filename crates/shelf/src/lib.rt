@@ -1,11 +1,10 @@
 // A book's entries on a shelf: slots chained as a balanced tree in book order. No call takes memory, and each goes down one
 // way of at most 14 levels, whatever the shelf holds.
-// The slots and the root link stay two parameters: the caller owns both, and a struct of them would be two, one with a `&`
-// for the calls that read and one with a `&mut` for those that write, made anew for each call. So do the link and the depth
-// of a walk: both are others at each step.
+// The slots, the root link and the watch stay parameters of their own: the caller owns them, one who only reads has no `&mut`
+// to give, and calls that count take no watch. So do the link and the depth of a walk: both are others at each step.
 #![tactic(auto)]
 
-pub mod dating;
+mod dating;
 pub mod reading;
 pub mod writing;
 

@@ -8,7 +8,7 @@ use crate::{Parts, Slot};
 use avl::level_over;
 use watches::{Summary, Watch};
 
-// The slot that a link leads to, or the blank slot where it leads nowhere.
+// The slot that a link leads to, or the blank slot where it leads nowhere. (`unwrap_or_else` was tried, and the check does not cover it here.)
 pub fn slot_at<S: Summary>(shelf: &[Slot<S>], link: u16) -> Slot<S>
     ensures { result ≡ slot S.Summary.model shelf.now link }
 {
@@ -31,6 +31,7 @@ pub fn joined_over<S: Summary>(left: S, own: S, right: S) -> S
     left.join(own).join(right)
 }
 
+// The three figures that `put` writes. A slot has them as fields of its own, since all its fields are plain ones that its owner sees.
 #[derive(Clone, Copy)]
 pub(crate) struct Figures<S> {
     pub(crate) level: u16,

@@ -38,11 +38,11 @@ impl Watch for WaitingWatch {
         } else if is_draw(operation) {
             Span { unmet: 1, left: 0 }
         } else {
-            <Span as crate::Summary>::unit()
+            Span::unit()
         }
     }
 
     fn figure(&self, summary: &Span) -> i64 {
-        summary.left as i64
+        i64::from(summary.left)
     }
 }

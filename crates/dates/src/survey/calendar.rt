@@ -18,7 +18,7 @@ fn is_leap(year: u16) -> bool
 pub(super) fn is_date(year: u16, month: u8, day: u8) -> bool
     ensures { result ≡ exists year month day }
 {
-    if year < 1 || 9999 < year || 12 < month {
+    if !(1..=9999).contains(&year) || 12 < month {
         return false;
     }
     if month == 0 {

@@ -8,7 +8,7 @@ use crate::survey::calendar::is_date;
 use crate::{Date, NoSuchDate, SurveyDate};
 
 impl SurveyDate {
-    // Refused where there is no such date.
+    // Refused where there is no such date. The `if` stays: the ghost field is shown from its test, which a closure of `then` would not see.
     pub fn new(year: u16, month: u8, day: u8) -> Result<SurveyDate, NoSuchDate>
         ensures { result ≡ dated year month day }
     {

@@ -5,17 +5,14 @@ ghost use Rattle.watches.specs.CellLaws.{cell_rules};
 
 use crate::{CellWatch, Sum, Summary as _, Watch};
 use machines::{Machine as _, Operation, Question};
-use primitives::{CHANGE, Tally};
-
-// How many cells a tally has.
-const CELLS: u16 = 64;
+use primitives::{CHANGE, PLACES, Tally};
 
 impl CellWatch {
-    // The watch of that cell; none where a tally has no such cell.
+    // The watch of that cell; none where a tally has no such cell. The `if` stays: the ghost field is shown from its test.
     pub fn new(cell: u16) -> Option<CellWatch>
         ensures { result ≡ watch_of cell }
     {
-        if cell < CELLS {
+        if cell < PLACES {
             Some(CellWatch { cell })
         } else {
             None
@@ -46,12 +43,12 @@ impl Watch for CellWatch {
 
     // A change of the cell gives its amount; what the tally does not know, or what changes another cell, gives the unit.
     fn summary_of(&self, operation: &Operation) -> Sum {
-        if <Tally as machines::Machine>::knows(operation) && operation.place == self.cell {
+        if Tally::knows(operation) && operation.place == self.cell {
             Sum {
-                total: operation.amount as i64,
+                total: i64::from(operation.amount),
             }
         } else {
-            <Sum as crate::Summary>::unit()
+            Sum::unit()
         }
     }
 

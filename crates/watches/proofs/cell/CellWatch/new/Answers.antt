@@ -2,5 +2,5 @@
 use Rattle.watches.specs.CellLaws.{watch_back}
 use Rattle.watches.proofs.cell.CellWatch.new.Goals as goal
 
-pub returns-then-cell-lt-CELLS : goal.returns-then-cell-lt-CELLS
-returns-then-cell-lt-CELLS c = watch_back _
+pub returns-then-cell-lt-PLACES : goal.returns-then-cell-lt-PLACES
+returns-then-cell-lt-PLACES c = watch_back _
