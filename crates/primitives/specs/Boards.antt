@@ -1,11 +1,16 @@
 -- The laws of a board, and what its step tells of the statuses before it.
 use Rattle.std.specs.Prelude.{◌≡◌, true, List, ℤ, pos, Some, slice_index_or, slice_set}
 use Rattle.std.proofs.lemmas.Bool.{cond-false}
+use mathlib.Core.HLevel.{Σ_prop_path}
 use Rattle.machines.specs.Model.{Lawful}
 use Rattle.machines.specs.declared.operation.Operation.{Operation}
 use Rattle.machines.specs.Model.{Note}
-use Rattle.primitives.specs.Board.{plain_board, is_set}
+use Rattle.primitives.specs.Board.{board, board_bound, plain_board, is_set}
 use Rattle.primitives.specs.Steps.{cond_idle, cond_moved, set_back}
+
+-- states with the same numbers are the same
+pub board_same : (a b : board.State) → a.0 ≡ b.0 → a ≡ b
+board_same a b = Σ_prop_path board_bound.once
 
 pub board_lawful : Lawful plain_board
 board_lawful = record {

@@ -3,9 +3,10 @@ use Rattle.std.specs.Prelude.{◌≡◌, ℕ, ◌-◌, Bool, true, false, cond, 
 use Rattle.std.proofs.Common.{◌∙◌, arith, length-append}
 use Rattle.std.proofs.lemmas.List.{take_at}
 use Rattle.std.proofs.lemmas.Bool.{cond-true, cond-false, or_parts, lt-ltb}
+use mathlib.Core.HLevel.{Σ_prop_path}
 use Rattle.machines.specs.Model.{Lawful}
 use Rattle.machines.specs.declared.operation.Operation.{Operation}
-use Rattle.primitives.specs.Queue.{plain_queue, is_order, is_draw, asks_length, asks_job, has_room, ordered, order_note, draw_note, Few}
+use Rattle.primitives.specs.Queue.{queue, queue_bound, plain_queue, is_order, is_draw, asks_length, asks_job, has_room, ordered, order_note, draw_note, Few}
 use Rattle.primitives.specs.Steps.{cond_idle, cond_moved}
 
 -- of three ways, by two tests
@@ -17,6 +18,10 @@ stays true d s job h = cond_idle (has_room s) (pos 0) _ s h
 stays false true [] job h = refl
 stays false true (x ∷ xs) job h = let z : ◌≡◌ {A = ℕ} 0 1 = cc in absurd (omega arith)
 stays false false s job h = refl
+
+-- states with the same numbers are the same
+pub queue_same : (a b : queue.State) → a.0 ≡ b.0 → a ≡ b
+queue_same a b = Σ_prop_path queue_bound.once
 
 pub queue_lawful : Lawful plain_queue
 queue_lawful = record {

@@ -5,11 +5,16 @@ use Rattle.std.specs.Int.{int_wrap, w32}
 use Rattle.std.proofs.lemmas.Int.{ints, int_wrap_fits}
 use Rattle.std.proofs.lemmas.Bool.{cond-false, and_left}
 use Rattle.std.proofs.lemmas.Bool.Decides.{nat_tests}
+use mathlib.Core.HLevel.{Σ_prop_path}
 use Rattle.machines.specs.Model.{Lawful}
 use Rattle.machines.specs.declared.operation.Operation.{Operation}
 use Rattle.primitives.specs.Ranges.{within}
-use Rattle.primitives.specs.Tally.{plain_tally, moves, sum}
+use Rattle.primitives.specs.Tally.{tally, tally_bound, plain_tally, moves, sum}
 use Rattle.primitives.specs.Steps.{cond_idle, cond_moved, written, set_back}
+
+-- states with the same numbers are the same
+pub tally_same : (a b : tally.State) → a.0 ≡ b.0 → a ≡ b
+tally_same a b = Σ_prop_path tally_bound.once
 
 pub tally_lawful : Lawful plain_tally
 tally_lawful = record {

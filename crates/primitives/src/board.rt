@@ -30,6 +30,7 @@ impl Machine for Board {
 
     ghost lawful = { bounded_lawful plain_board board_bound board_lawful };
 
+    #[tactic(auto, using(crate::specs::Boards::board_same))]
     fn new(_heap: Global) -> Result<Board, AllocError> {
         Ok(Board {
             statuses: Numbers::new(),
@@ -45,6 +46,7 @@ impl Machine for Board {
     }
 
     // Notes the old status.
+    #[tactic(auto, using(crate::specs::Boards::board_same))]
     fn step(&mut self, operation: &Operation) -> Note {
         if !Self::knows(operation) {
             return None;

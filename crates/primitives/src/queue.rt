@@ -129,6 +129,7 @@ impl Machine for Queue {
 
     ghost lawful = { bounded_lawful plain_queue queue_bound queue_lawful };
 
+    #[tactic(auto, using(crate::specs::Queues::queue_same))]
     fn new(heap: Global) -> Result<Queue, AllocError> {
         Ok(Queue {
             jobs: VecDeque::with_capacity(heap, MOST_JOBS)?,
@@ -143,6 +144,7 @@ impl Machine for Queue {
         asks_length(question) || asks_job(question)
     }
 
+    #[tactic(auto, using(crate::specs::Queues::queue_same))]
     fn step(&mut self, operation: &Operation) -> Note {
         if is_order(operation) {
             self.order(operation.amount)

@@ -65,6 +65,7 @@ impl Machine for Tally {
 
     ghost lawful = { bounded_lawful plain_tally tally_bound tally_lawful };
 
+    #[tactic(auto, using(crate::specs::Tallies::tally_same))]
     fn new(_heap: Global) -> Result<Tally, AllocError> {
         Ok(Tally {
             counts: Numbers::new(),
@@ -79,6 +80,7 @@ impl Machine for Tally {
         Numbers::<CHANGE>::answers(question)
     }
 
+    #[tactic(auto, using(crate::specs::Tallies::tally_same))]
     fn step(&mut self, operation: &Operation) -> Note {
         let count = self.changed(operation)?;
         self.counts.items[operation.place as usize] = count;

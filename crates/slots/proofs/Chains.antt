@@ -1,21 +1,16 @@
 -- What trees that are chained through slots keep as slots are written.
-use Rattle.std.proofs.Common.{◌≡◌, ℕ, ◌+◌, ◌<◌, max, List, ◌∷◌, ◌++◌, length, set, get_or, refl, ap, ◌∙◌, inl, inr, ⊎_elim, arith, length-set}
-use Rattle.std.proofs.lemmas.List.{get_or_past, get_or_read, get_or-set_same, get_or-set_other}
+use Rattle.std.proofs.Common.{◌≡◌, ℕ, ◌+◌, ◌<◌, max, List, ◌∷◌, ◌++◌, length, set, refl, ap, ◌∙◌, inl, inr, ⊎_elim, arith, length-set}
+use Rattle.std.proofs.lemmas.List.{get_or_past, get_or-set_same, get_or-set_other}
 use Rattle.avl.specs.Book.{In}
 use Rattle.avl.specs.Tree.{Tree, leaf, node, inorder, levels}
 use Rattle.avl.specs.Standing.{tree_count}
 use Rattle.avl.specs.Summary.{SummaryModel, tree_join}
 use Rattle.machines.specs.declared.operation.Operation.{Operation}
-use Rattle.slots.specs.declared.slot.Parts.{Parts}
 use Rattle.slots.specs.declared.slot.Slot.{Slot}
-use Rattle.slots.specs.Slots.{Entry, blank, slot, entry, entries, placement, parts, Kept}
+use Rattle.slots.specs.Slots.{Entry, blank, slot, entry, entries, placement, Kept}
 use Rattle.slots.specs.Chain.{Chained, Once, Formed, Tied, standing, own}
 use Rattle.slots.proofs.Measures.{count_local, join_local}
 use Rattle.slots.proofs.Lists.{in_left, in_right, in_either, once_right, once_apart}
-
--- the parts of the tree at a link, read in the slot that is found there
-pub parts_at : {S : Type 0} (model : SummaryModel S) (slots : List (Slot S)) (link : ℕ) (found : Slot S) (up : Parts) → link < length slots → found ≡ get_or slots link found → up ≡ parts found link → up ≡ parts (slot model slots link) link
-parts_at model slots link found up within read is = is ∙ ap (λ s. parts s link) (get_or_read slots link found within read (blank model))
 
 pub all_kept : {S : Type 0} (model : SummaryModel S) (slots : List (Slot S)) → Kept model slots slots
 all_kept model slots = record { same = λ k. refl; long = refl }

@@ -2,9 +2,10 @@
 // The rotations of Adelson-Velsky and Landis are compositions of it.
 // The shelf and the watch stay two parameters. As fields of one struct they were tried: each method has to borrow the slice
 // out of its field by a line of its own, and each contract has to say that the watch stays the same, which is no plainer.
-ghost use Rattle.std.specs.Prelude.{◌≡◌, ◌≤◌, length};
+ghost use Rattle.std.specs.Prelude.{◌≡◌, ◌<◌, ◌≤◌, length};
+ghost use Rattle.std.specs.Option.{MatchOption};
 ghost use Rattle.avl.specs.Tree.{node, turn_left, turn_right, lift_left, lift_right, balance};
-ghost use Rattle.slots.specs.Slots.{Kept};
+ghost use Rattle.slots.specs.Slots.{parts, slot, Kept};
 ghost use Rattle.slots.specs.Chain.{Makes};
 
 use crate::figures::{figures_over, slot_at};
@@ -34,15 +35,21 @@ pub fn put<W: Watch>(shelf: &mut [Slot<W::Summary>], parts: Parts, watch: &W) ->
     parts.top
 }
 
+// The parts of the tree that a link leads to; none where it leads nowhere.
+fn parts_at<S: Summary>(shelf: &[Slot<S>], link: u16) -> Option<Parts>
+    ensures { MatchOption result (length shelf.now ≤ link) (λ up. (link < length shelf.now) × (up ≡ parts (slot S.Summary.model shelf.now link) link)) }
+{
+    shelf.get(link as usize).map(|slot| slot.parts(link))
+}
+
 // A rotation: the top of the right side comes up, and the old top goes down to the left of it.
 fn turn_left<W: Watch>(shelf: &mut [Slot<W::Summary>], parts: Parts, watch: &W) -> u16
     ensures kept { Kept W.Summary.Summary.model shelf.old shelf.new }
     ensures makes { Makes W.Summary.Summary.model (W.Watch.summed watch.now) turn_left shelf.old shelf.new parts.left parts.top parts.right result }
 {
-    let Some(slot) = shelf.get(parts.right as usize) else {
+    let Some(up) = parts_at(shelf, parts.right) else {
         return put(shelf, parts, watch);
     };
-    let up = slot.parts(parts.right);
     let low = Parts {
         right: up.left,
         ..parts
@@ -57,10 +64,9 @@ fn turn_right<W: Watch>(shelf: &mut [Slot<W::Summary>], parts: Parts, watch: &W)
     ensures kept { Kept W.Summary.Summary.model shelf.old shelf.new }
     ensures makes { Makes W.Summary.Summary.model (W.Watch.summed watch.now) turn_right shelf.old shelf.new parts.left parts.top parts.right result }
 {
-    let Some(slot) = shelf.get(parts.left as usize) else {
+    let Some(up) = parts_at(shelf, parts.left) else {
         return put(shelf, parts, watch);
     };
-    let up = slot.parts(parts.left);
     let low = Parts {
         left: up.right,
         ..parts
@@ -75,10 +81,9 @@ fn lift_right<W: Watch>(shelf: &mut [Slot<W::Summary>], parts: Parts, watch: &W)
     ensures kept { Kept W.Summary.Summary.model shelf.old shelf.new }
     ensures makes { Makes W.Summary.Summary.model (W.Watch.summed watch.now) lift_right shelf.old shelf.new parts.left parts.top parts.right result }
 {
-    let Some(slot) = shelf.get(parts.right as usize) else {
+    let Some(up) = parts_at(shelf, parts.right) else {
         return put(shelf, parts, watch);
     };
-    let up = slot.parts(parts.right);
     if slot_at(shelf, up.right).level < slot_at(shelf, up.left).level {
         let right = turn_right(shelf, up, watch);
         turn_left(shelf, Parts { right, ..parts }, watch)
@@ -92,10 +97,9 @@ fn lift_left<W: Watch>(shelf: &mut [Slot<W::Summary>], parts: Parts, watch: &W) 
     ensures kept { Kept W.Summary.Summary.model shelf.old shelf.new }
     ensures makes { Makes W.Summary.Summary.model (W.Watch.summed watch.now) lift_left shelf.old shelf.new parts.left parts.top parts.right result }
 {
-    let Some(slot) = shelf.get(parts.left as usize) else {
+    let Some(up) = parts_at(shelf, parts.left) else {
         return put(shelf, parts, watch);
     };
-    let up = slot.parts(parts.left);
     if slot_at(shelf, up.right).level > slot_at(shelf, up.left).level {
         let left = turn_left(shelf, up, watch);
         turn_right(shelf, Parts { left, ..parts }, watch)

@@ -1,17 +1,14 @@
 use Rattle.std.proofs.Common.{ap, arith}
-use Rattle.slots.proofs.Chains.{parts_at}
 use Rattle.slots.proofs.Lifts.{lift_left_leaf, lift_left_in, lift_left_out}
 use Rattle.slots.proofs.tree.lift_left.Goals as goal
 
 pub returns-in_default-clause-makes : goal.returns-in_default-clause-makes
-returns-in_default-clause-makes g c = lift_left_leaf _ _ _ _ _ _ _ _ c.in_default.ensures.lookup.3 c.put.ensures.makes
+returns-in_default-clause-makes g c = lift_left_leaf _ _ _ _ _ _ _ _ c.in_default.ensures c.put.ensures.makes
 
 pub returns-then-slot_at-clause-makes : goal.returns-then-slot_at-clause-makes
 returns-then-slot_at-clause-makes g c =
-    let up = parts_at g.W.Summary.Summary.model c.args.shelf.now _ _ _ c.in-Some.ensures.lookup.3.0 c.in-Some.ensures.lookup.1 c.parts-up.ensures in
-    lift_left_in _ _ _ _ _ _ _ _ _ _ c.in-Some.ensures.lookup.3.0 _ up c.turn_left-left.ensures.kept (omega (arith, ap (λ s. s.level) c.slot_at.ensures, ap (λ s. s.level) c.slot_at-2.ensures)) c.turn_left-left.ensures.makes c.turn_right.ensures.makes
+    lift_left_in _ _ _ _ _ _ _ _ _ _ c.in-Some.ensures.0 _ c.in-Some.ensures.1 c.turn_left-left.ensures.kept (omega (arith, ap (λ s. s.level) c.slot_at.ensures, ap (λ s. s.level) c.slot_at-2.ensures)) c.turn_left-left.ensures.makes c.turn_right.ensures.makes
 
 pub returns-else-slot_at-clause-makes : goal.returns-else-slot_at-clause-makes
 returns-else-slot_at-clause-makes g c =
-    let up = parts_at g.W.Summary.Summary.model c.args.shelf.now _ _ _ c.in-Some.ensures.lookup.3.0 c.in-Some.ensures.lookup.1 c.parts-up.ensures in
-    lift_left_out _ _ _ _ _ _ _ _ c.in-Some.ensures.lookup.3.0 _ up (omega (arith, ap (λ s. s.level) c.slot_at.ensures, ap (λ s. s.level) c.slot_at-2.ensures)) c.turn_right-else-slot_at.ensures.makes
+    lift_left_out _ _ _ _ _ _ _ _ c.in-Some.ensures.0 _ c.in-Some.ensures.1 (omega (arith, ap (λ s. s.level) c.slot_at.ensures, ap (λ s. s.level) c.slot_at-2.ensures)) c.turn_right-else-slot_at.ensures.makes
