@@ -18,15 +18,14 @@ mod reading;
 mod runs;
 #[cfg(test)]
 mod spans;
+mod trial;
 
-use dates::DayNumber;
 use machines::Operation;
 use primitives::CHANGE;
-use shelf::{add, count_before, count_up_to, figure_up_to, find, no_root, void};
-use slots::Slot;
 use slots::figures::slot_at;
 use std::{io, iter};
-use watches::{CellWatch, Sum};
+use trial::Trial;
+use watches::CellWatch;
 
 const SLOTS: u16 = 1_024;
 
@@ -52,105 +51,65 @@ fn operation(n: u16) -> Operation {
     }
 }
 
-// A shelf with the root that its owner keeps, and the watch of its sums.
-#[derive(Clone, Copy)]
-struct WatchedShelf {
-    slots: [Slot<Sum>; SLOTS as usize],
-    root: u16,
-    watch: CellWatch,
+fn print_line(rt: &HostRuntime, shelf: &Trial<CellWatch>, n: u16) -> io::Result<()> {
+    let levels = slot_at(shelf.slots.as_slice(), shelf.root).level;
+    let standing = shelf.count_up_to(LAST_DAY);
+    let sum = shelf.figure_up_to(LAST_DAY);
+    print!(rt; "{n:>7} {levels:>6} {standing:>8} {sum:>7}")?;
+    match (shelf.find(0), shelf.find(standing.saturating_sub(1))) {
+        (Some(first), Some(last)) => println!(rt; " {first:>5} {last:>5}"),
+        _ => println!(rt; "  none  none"),
+    }
 }
 
-impl WatchedShelf {
-    fn new(watch: CellWatch) -> WatchedShelf {
-        WatchedShelf {
-            slots: [Slot::blank(); SLOTS as usize],
-            root: no_root::<DayNumber, Sum>(),
-            watch,
+// Adds an entry under each of the days, says which of them is refused, and prints a line at each of the sizes.
+fn fill(rt: &HostRuntime, shelf: &mut Trial<CellWatch>, days: &[i32]) -> io::Result<()> {
+    for (number, day) in (1..=SLOTS + 1).zip(days) {
+        if shelf.add(*day, operation(number)).is_none() {
+            println!(rt; "entry {number} is refused")?;
+        }
+        if SIZES.contains(&number) {
+            print_line(rt, shelf, number)?;
         }
     }
+    Ok(())
+}
 
-    fn find(&self, k: u16) -> Option<u16> {
-        find::<DayNumber, Sum>(&self.slots, self.root, k)
+fn void_every_third(shelf: &mut Trial<CellWatch>) {
+    for n in (2..SLOTS).step_by(3) {
+        shelf.void(n);
     }
+}
 
-    // How many entries stand up to a day, and the sum of their changes.
-    fn standing_and_sum(&self, day: i32) -> (u16, i64) {
-        let date = DayNumber::new(day);
-        let standing = count_up_to(&self.slots, self.root, &date);
-        (
-            standing,
-            figure_up_to(&self.slots, self.root, &date, &self.watch),
-        )
+fn print_answers(rt: &HostRuntime, shelf: &Trial<CellWatch>) -> io::Result<()> {
+    for day in [-1, 0, 100, 500, 900, LAST_DAY] {
+        let standing = shelf.count_up_to(day);
+        let sum = shelf.figure_up_to(day);
+        println!(rt; "up to day {day}: {standing} stand, sum {sum}")?;
     }
-
-    fn print_line(&self, rt: &HostRuntime, n: u16) -> io::Result<()> {
-        let levels = slot_at(&self.slots, self.root).level;
-        let (standing, sum) = self.standing_and_sum(LAST_DAY);
-        print!(rt; "{n:>7} {levels:>6} {standing:>8} {sum:>7}")?;
-        match (self.find(0), self.find(standing.saturating_sub(1))) {
-            (Some(first), Some(last)) => println!(rt; " {first:>5} {last:>5}"),
-            _ => println!(rt; "  none  none"),
+    for i in [0, 2, 511, 1_022, 1_023] {
+        let standing = shelf.count_before(i);
+        println!(rt; "before slot {i}: {standing} stand")?;
+    }
+    for k in [1, 100, 341, 682, 683] {
+        match shelf.find(k) {
+            Some(i) => println!(rt; "behind {k} others: {i}")?,
+            None => println!(rt; "behind {k} others: none")?,
         }
     }
-
-    // Adds an entry under each of the days until there is no room, and prints a line at each of the sizes.
-    fn fill(&mut self, rt: &HostRuntime, days: &[i32]) -> io::Result<()> {
-        for (n, day) in (0..=SLOTS).zip(days) {
-            let number = n.saturating_add(1);
-            let date = DayNumber::new(*day);
-            match add(
-                &mut self.slots,
-                self.root,
-                n,
-                &date,
-                operation(number),
-                &self.watch,
-            ) {
-                Some(top) => self.root = top,
-                None => println!(rt; "entry {number} is refused")?,
-            }
-            if SIZES.contains(&number) {
-                self.print_line(rt, number)?;
-            }
-        }
-        Ok(())
-    }
-
-    fn void_every_third(&mut self) {
-        for n in (2..SLOTS).step_by(3) {
-            void::<DayNumber, CellWatch>(&mut self.slots, self.root, n, &self.watch);
-        }
-    }
-
-    fn print_answers(&self, rt: &HostRuntime) -> io::Result<()> {
-        for day in [-1, 0, 100, 500, 900, LAST_DAY] {
-            let (standing, sum) = self.standing_and_sum(day);
-            println!(rt; "up to day {day}: {standing} stand, sum {sum}")?;
-        }
-        for i in [0, 2, 511, 1_022, 1_023] {
-            let standing = count_before::<DayNumber, Sum>(&self.slots, self.root, i);
-            println!(rt; "before slot {i}: {standing} stand")?;
-        }
-        for k in [1, 100, 341, 682, 683] {
-            match self.find(k) {
-                Some(i) => println!(rt; "behind {k} others: {i}")?,
-                None => println!(rt; "behind {k} others: none")?,
-            }
-        }
-        Ok(())
-    }
+    Ok(())
 }
 
 // Prints what a shelf answers whose entries come in under these days, one after the other.
 fn print_order(rt: &HostRuntime, name: &str, days: &[i32], watch: CellWatch) -> io::Result<()> {
     println!(rt; "{name}")?;
     println!(rt; "entries levels standing     sum first  last")?;
-    let mut shelf = WatchedShelf::new(watch);
-    shelf.fill(rt, days)?;
+    let mut shelf = Trial::new(rt.alloc(), watch, SLOTS as usize)?;
+    fill(rt, &mut shelf, days)?;
     println!(rt; "every third entry voided")?;
-    shelf.void_every_third();
-    shelf.print_line(rt, SLOTS)?;
-    shelf.print_answers(rt)
+    void_every_third(&mut shelf);
+    print_line(rt, &shelf, SLOTS)?;
+    print_answers(rt, &shelf)
 }
 
 fn next_number(number: u32) -> u32 {
@@ -158,7 +117,7 @@ fn next_number(number: u32) -> u32 {
 }
 
 // From both ends in turn towards the middle.
-fn zigzag(i: i32) -> i32 {
+fn zigzag_day(i: i32) -> i32 {
     if i % 2 == 0 { i / 2 } else { LAST_DAY - i / 2 }
 }
 
@@ -170,7 +129,7 @@ fn main(rt: HostRuntime) -> io::Result<()> {
     // Each order has a day more than there are slots, so that an entry is refused.
     let rising: Vec<i32> = (0..=LAST_DAY + 1).collect(heap)?;
     let falling: Vec<i32> = (-1..=LAST_DAY).rev().collect(heap)?;
-    let zigzag: Vec<i32> = (0..=LAST_DAY + 1).map(zigzag).collect(heap)?;
+    let zigzag: Vec<i32> = (0..=LAST_DAY + 1).map(zigzag_day).collect(heap)?;
     let equal = [500; SLOTS as usize + 1];
     let scrambled: Vec<i32> = iter::successors(
         Some(next_number(1)),

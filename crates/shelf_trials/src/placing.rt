@@ -1,6 +1,6 @@
 // Where an entry goes in book order, and the rotations that keep the tree balanced.
 use crate::entries::{cell, change, survey_date};
-use crate::runs::Trial;
+use crate::trial::Trial;
 use dates::SurveyDate;
 use shelf::{add, count_before, count_up_to, no_root};
 use slots::Slot;
@@ -61,7 +61,7 @@ fn an_unknown_day_goes_before_the_known_ones(rt: HostRuntime) -> Result<(), Fail
 fn of_days_1_3_2_the_middle_comes_to_the_top(rt: HostRuntime) -> Result<(), Fail> {
     let mut shelf = Trial::new(rt.alloc(), cell(0)?, 8)?;
     shelf.enter_days(&[1, 3, 2])?;
-    assert_eq!(rt; shelf.root(), 2);
+    assert_eq!(rt; shelf.root, 2);
     assert_eq!(rt; shelf.tree_at(2), Some((0, 1, 2)));
     Ok(())
 }
@@ -70,7 +70,7 @@ fn of_days_1_3_2_the_middle_comes_to_the_top(rt: HostRuntime) -> Result<(), Fail
 fn of_days_3_1_2_the_middle_comes_to_the_top(rt: HostRuntime) -> Result<(), Fail> {
     let mut shelf = Trial::new(rt.alloc(), cell(0)?, 8)?;
     shelf.enter_days(&[3, 1, 2])?;
-    assert_eq!(rt; shelf.root(), 2);
+    assert_eq!(rt; shelf.root, 2);
     assert_eq!(rt; shelf.tree_at(2), Some((1, 0, 2)));
     Ok(())
 }
@@ -85,15 +85,15 @@ fn the_shelf_of_five_entries_is_chained_as_drawn(rt: HostRuntime) -> Result<(), 
     shelf.enter(12, change(0, 7))?;
     shelf.enter(30, change(0, 1))?;
     shelf.void(3);
-    assert_eq!(rt; shelf.root(), 0);
+    assert_eq!(rt; shelf.root, 0);
     assert_eq!(rt; shelf.tree_at(0), Some((1, 2, 3)));
     assert_eq!(rt; shelf.tree_at(1), Some((u16::MAX, 3, 2)));
     assert_eq!(rt; shelf.tree_at(2), Some((u16::MAX, 4, 2)));
     assert_eq!(rt; shelf.find(0), Some(1));
     assert_eq!(rt; shelf.find(3), Some(4));
     assert_eq!(rt; shelf.count_up_to(25), 2);
-    assert_eq!(rt; shelf.figure_up_to(25)?, 9);
-    assert_eq!(rt; shelf.figure_up_to(30)?, 8);
+    assert_eq!(rt; shelf.checked_figure_up_to(25)?, 9);
+    assert_eq!(rt; shelf.checked_figure_up_to(30)?, 8);
     Ok(())
 }
 
@@ -101,7 +101,7 @@ fn the_shelf_of_five_entries_is_chained_as_drawn(rt: HostRuntime) -> Result<(), 
 fn seven_rising_days_have_3_levels(rt: HostRuntime) -> Result<(), Fail> {
     let mut shelf = Trial::new(rt.alloc(), cell(0)?, 8)?;
     shelf.enter_days(&[1, 2, 3, 4, 5, 6, 7])?;
-    assert_eq!(rt; shelf.root(), 3);
+    assert_eq!(rt; shelf.root, 3);
     assert_eq!(rt; shelf.tree_at(3), Some((1, 5, 3)));
     assert_eq!(rt; shelf.tree_at(1), Some((0, 2, 2)));
     assert_eq!(rt; shelf.tree_at(5), Some((4, 6, 2)));

@@ -1,6 +1,6 @@
 // What the calls that read a shelf answer, before and after entries are voided.
 use crate::entries::{cell, change, draw, order};
-use crate::runs::Trial;
+use crate::trial::Trial;
 use primitives::Queue;
 use std::test::Fail;
 use watches::{CellWatch, First, WaitingWatch};
@@ -57,13 +57,13 @@ fn a_voided_entry_is_neither_found_nor_counted_nor_joined(rt: HostRuntime) -> Re
     shelf.enter(10, change(0, 1))?;
     shelf.enter(20, change(0, 2))?;
     shelf.enter(30, change(0, 4))?;
-    assert_eq!(rt; shelf.figure_up_to(30)?, 7);
+    assert_eq!(rt; shelf.checked_figure_up_to(30)?, 7);
     shelf.void(1);
     assert_eq!(rt; shelf.find(1), Some(2));
     assert_eq!(rt; shelf.count_up_to(20), 1);
     assert_eq!(rt; shelf.count_up_to(30), 2);
-    assert_eq!(rt; shelf.figure_up_to(20)?, 1);
-    assert_eq!(rt; shelf.figure_up_to(30)?, 5);
+    assert_eq!(rt; shelf.checked_figure_up_to(20)?, 1);
+    assert_eq!(rt; shelf.checked_figure_up_to(30)?, 5);
     Ok(())
 }
 
@@ -74,7 +74,7 @@ fn a_voided_entry_keeps_its_place(rt: HostRuntime) -> Result<(), Fail> {
     shelf.enter(20, change(0, 2))?;
     shelf.enter(30, change(0, 4))?;
     shelf.void(1);
-    assert_eq!(rt; shelf.root(), 1);
+    assert_eq!(rt; shelf.root, 1);
     assert_eq!(rt; shelf.tree_at(1), Some((0, 2, 2)));
     assert_eq!(rt; shelf.count_before(1), 1);
     shelf.enter(20, change(0, 8))?;
@@ -87,17 +87,17 @@ fn a_voided_entry_keeps_its_place(rt: HostRuntime) -> Result<(), Fail> {
 #[test]
 fn the_figure_of_a_cell_is_what_a_tally_reads(rt: HostRuntime) -> Result<(), Fail> {
     let mut shelf = Trial::new(rt.alloc(), cell(3)?, 6)?;
-    assert_eq!(rt; shelf.figure_up_to(0)?, 0);
+    assert_eq!(rt; shelf.checked_figure_up_to(0)?, 0);
     shelf.enter(20, change(3, 5))?;
     shelf.enter(10, change(3, -2))?;
     shelf.enter(15, change(4, 100))?;
     shelf.enter(10, change(3, 1_000_000))?;
     shelf.enter(30, change(3, 1_000_001))?;
     shelf.enter(12, order(7))?;
-    assert_eq!(rt; shelf.figure_up_to(9)?, 0);
-    assert_eq!(rt; shelf.figure_up_to(10)?, 999_998);
-    assert_eq!(rt; shelf.figure_up_to(19)?, 999_998);
-    assert_eq!(rt; shelf.figure_up_to(30)?, 1_000_003);
+    assert_eq!(rt; shelf.checked_figure_up_to(9)?, 0);
+    assert_eq!(rt; shelf.checked_figure_up_to(10)?, 999_998);
+    assert_eq!(rt; shelf.checked_figure_up_to(19)?, 999_998);
+    assert_eq!(rt; shelf.checked_figure_up_to(30)?, 1_000_003);
     Ok(())
 }
 
@@ -109,13 +109,13 @@ fn the_figure_of_waiting_jobs_is_what_a_queue_reads(rt: HostRuntime) -> Result<(
     shelf.enter(2, order(7))?;
     shelf.enter(2, order(9))?;
     shelf.enter(4, order(5))?;
-    assert_eq!(rt; shelf.figure_up_to(1)?, 0);
-    assert_eq!(rt; shelf.figure_up_to(2)?, 2);
-    assert_eq!(rt; shelf.figure_up_to(3)?, 1);
-    assert_eq!(rt; shelf.figure_up_to(4)?, 2);
+    assert_eq!(rt; shelf.checked_figure_up_to(1)?, 0);
+    assert_eq!(rt; shelf.checked_figure_up_to(2)?, 2);
+    assert_eq!(rt; shelf.checked_figure_up_to(3)?, 1);
+    assert_eq!(rt; shelf.checked_figure_up_to(4)?, 2);
     shelf.void(2);
-    assert_eq!(rt; shelf.figure_up_to(3)?, 0);
-    assert_eq!(rt; shelf.figure_up_to(4)?, 1);
+    assert_eq!(rt; shelf.checked_figure_up_to(3)?, 0);
+    assert_eq!(rt; shelf.checked_figure_up_to(4)?, 1);
     Ok(())
 }
 
@@ -128,8 +128,8 @@ fn a_watch_of_the_first_of_a_pair_passes_by_what_the_second_takes(
     shelf.enter(1, order(3))?;
     shelf.enter(3, draw())?;
     shelf.enter(1, change(0, -7))?;
-    assert_eq!(rt; shelf.figure_up_to(0)?, 0);
-    assert_eq!(rt; shelf.figure_up_to(1)?, -7);
-    assert_eq!(rt; shelf.figure_up_to(3)?, -2);
+    assert_eq!(rt; shelf.checked_figure_up_to(0)?, 0);
+    assert_eq!(rt; shelf.checked_figure_up_to(1)?, -7);
+    assert_eq!(rt; shelf.checked_figure_up_to(3)?, -2);
     Ok(())
 }

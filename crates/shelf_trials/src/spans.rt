@@ -1,6 +1,6 @@
 // Spans are joined in book order, and not as their entries arrive.
 use crate::entries::{draw, order};
-use crate::runs::Trial;
+use crate::trial::Trial;
 use machines::Operation;
 use std::alloc::Global;
 use std::test::Fail;
