@@ -1,11 +1,10 @@
-// Dates, operations and watches of the tests, and shelves that entries fill.
+// Dates, operations and watches of the tests. The crate `trials` makes days and operations by functions of the same names:
+// both are programs, and no library stands under both that only tests would use.
 use dates::{DayNumber, SurveyDate};
 use machines::Operation;
 use primitives::{CHANGE, DRAW, ORDER};
-use shelf::{add, no_root};
-use slots::Slot;
 use std::test::Fail;
-use watches::{CellWatch, Sum};
+use watches::CellWatch;
 
 pub(crate) fn day(number: i32) -> DayNumber {
     DayNumber::new(number)
@@ -38,17 +37,4 @@ pub(crate) fn draw() -> Operation {
 // The watch of that cell.
 pub(crate) fn cell(number: u16) -> Result<CellWatch, Fail> {
     CellWatch::new(number).ok_or_else(|| Fail::new("no such cell"))
-}
-
-// Adds an entry for each day from slot 0 on, which changes cell 0 by 1, and answers the root.
-pub(crate) fn fill_days(
-    shelf: &mut [Slot<Sum>],
-    days: &[i32],
-    watch: &CellWatch,
-) -> Result<u16, Fail> {
-    let mut root = no_root::<DayNumber, Sum>();
-    for (n, number) in (0..u16::MAX).zip(days) {
-        root = add(shelf, root, n, &day(*number), change(0, 1), watch).ok_or("refused")?;
-    }
-    Ok(root)
 }

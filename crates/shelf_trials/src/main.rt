@@ -1,7 +1,7 @@
 // Fills a shelf of 1,024 slots in several orders of dates, and prints the levels of its tree and what its calls answer, as
 // entries come in and after every third is voided. What is printed is compared with the file `stdout`.
 //
-// The modules are tests of the calls on small shelves: where an entry goes, and what is at the edges.
+// The modules other than `trial` are for tests of the calls on small shelves: where an entry goes, and what is at the edges.
 #![tactic(auto)]
 
 #[cfg(test)]

@@ -1,8 +1,9 @@
-// What the tests ask of a shelf beside what the program asks.
+// The calls of a shelf, and what is read of it, that the tests need beside those of the program.
 use crate::entries::{change, day};
 use crate::trial::Trial;
-use machines::{Counter, Operation};
-use shelf::joined_up_to;
+use dates::DayNumber;
+use machines::{Counter, Note, Operation};
+use shelf::{joined_up_to, set_note};
 use std::alloc::AllocError;
 use std::test::Fail;
 use watches::Watch;
@@ -25,10 +26,20 @@ impl<W: Watch + Drop> Trial<W> {
         Ok(())
     }
 
+    pub(crate) fn set_note(&mut self, slot: u16, note: Note) {
+        set_note::<DayNumber, W::Summary>(self.slots.as_mut_slice(), slot, note);
+    }
+
     // The links of the slot to the left and to the right, and the levels of the tree that it is the top of.
     pub(crate) fn tree_at(&self, slot: u16) -> Option<(u16, u16, u16)> {
         let top = self.slots.get(slot as usize)?;
         Some((top.left, top.right, top.level))
+    }
+
+    // The levels and the standing entries of the whole tree.
+    pub(crate) fn size(&self) -> Option<(u16, u16)> {
+        let top = self.slots.get(self.root as usize)?;
+        Some((top.level, top.count))
     }
 
     // The joined summaries of the standing entries dated no later than the day.
@@ -38,7 +49,7 @@ impl<W: Watch + Drop> Trial<W> {
 
     // What the watched machine reads after steps with the standing entries dated no later than the day.
     fn read_up_to(&self, number: i32) -> Result<Option<i64>, AllocError> {
-        let mut counter = Counter::<W::Machine>::new(self.heap)?;
+        let mut counter = Counter::<W::Machine>::new(*self.slots.allocator())?;
         for k in 0..self.count_up_to(number) {
             if let Some(i) = self.find(k)
                 && let Some(slot) = self.slots.get(i as usize)

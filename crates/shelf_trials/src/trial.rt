@@ -10,7 +10,6 @@ use watches::Watch;
 // The slots of a shelf, with what their owner keeps: the root and the number of entries.
 #[derive(Drop)]
 pub struct Trial<W: Watch> {
-    pub(crate) heap: Global,
     pub(crate) watch: W,
     pub(crate) slots: Vec<Slot<W::Summary>>,
     pub(crate) root: u16,
@@ -21,7 +20,6 @@ impl<W: Watch + Drop> Trial<W> {
     // A shelf of so many slots, with no entry.
     pub(crate) fn new(heap: Global, watch: W, slots: usize) -> Result<Trial<W>, AllocError> {
         Ok(Trial {
-            heap,
             watch,
             slots: vec![in heap; Slot::blank(); slots]?,
             root: no_root::<DayNumber, W::Summary>(),
