@@ -12,6 +12,8 @@ mod board;
 #[cfg(test)]
 mod counter;
 #[cfg(test)]
+mod date_laws;
+#[cfg(test)]
 mod day_numbers;
 #[cfg(test)]
 mod good_lines;

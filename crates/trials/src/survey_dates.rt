@@ -1,4 +1,5 @@
 // Which survey dates there are, their order and their bytes.
+use crate::date_laws::{assert_bytes, assert_order};
 use dates::{Date, SurveyDate};
 use std::process::Abort;
 use std::test::Fail;
@@ -8,38 +9,17 @@ pub(crate) fn date(year: u16, month: u8, day: u8) -> Result<SurveyDate, Fail> {
 }
 
 // Each date exists or not, as is written beside it.
-fn exist(rt: &impl Abort, dates: &[(u16, u8, u8, bool)]) {
+fn assert_existence(rt: &impl Abort, dates: &[(u16, u8, u8, bool)]) {
     for &(year, month, day, exists) in dates {
         let found = SurveyDate::new(year, month, day);
         assert_eq!(rt; found.is_ok(), exists, "{year}-{month}-{day}");
     }
 }
 
-fn are_of_no_date(rt: &impl Abort, forms: &[[u8; 4]]) {
+fn assert_no_dates(rt: &impl Abort, forms: &[[u8; 4]]) {
     for bytes in forms {
         assert!(rt; SurveyDate::from_bytes(*bytes).is_err(), "{bytes:?}");
     }
-}
-
-// Each date compares with each as their indexes do.
-fn are_in_order(rt: &impl Abort, dates: &[(u16, u8, u8)]) -> Result<(), Fail> {
-    for (i, &(year, month, day)) in dates.iter().enumerate() {
-        let left = date(year, month, day)?;
-        for (j, &(year, month, day)) in dates.iter().enumerate() {
-            let right = date(year, month, day)?;
-            assert_eq!(rt; left.cmp(&right), i.cmp(&j), "{i} and {j}");
-        }
-    }
-    Ok(())
-}
-
-// The date has these bytes, and they are of this date.
-fn has_bytes(rt: &impl Abort, year: u16, month: u8, day: u8, bytes: [u8; 4]) -> Result<(), Fail> {
-    let date = date(year, month, day)?;
-    assert_eq!(rt; date.to_bytes(), bytes);
-    let again = SurveyDate::from_bytes(bytes).map_err(Fail::new)?;
-    assert!(rt; again == date);
-    Ok(())
 }
 
 #[test]
@@ -49,7 +29,7 @@ fn the_kind_is_2(rt: HostRuntime) {
 
 #[test]
 fn the_years_are_1_to_9999(rt: HostRuntime) {
-    exist(
+    assert_existence(
         &rt,
         &[
             (0, 0, 0, false),
@@ -66,7 +46,7 @@ fn the_years_are_1_to_9999(rt: HostRuntime) {
 
 #[test]
 fn a_day_may_be_unknown_and_is_where_the_month_is(rt: HostRuntime) {
-    exist(
+    assert_existence(
         &rt,
         &[
             (1987, 6, 0, true),
@@ -79,7 +59,7 @@ fn a_day_may_be_unknown_and_is_where_the_month_is(rt: HostRuntime) {
 
 #[test]
 fn the_months_end_at_12(rt: HostRuntime) {
-    exist(
+    assert_existence(
         &rt,
         &[
             (1987, 12, 0, true),
@@ -93,7 +73,7 @@ fn the_months_end_at_12(rt: HostRuntime) {
 
 #[test]
 fn a_month_ends_with_its_last_day(rt: HostRuntime) {
-    exist(
+    assert_existence(
         &rt,
         &[
             (1987, 1, 31, true),
@@ -109,7 +89,7 @@ fn a_month_ends_with_its_last_day(rt: HostRuntime) {
 
 #[test]
 fn february_has_29_days_in_a_leap_year_alone(rt: HostRuntime) {
-    exist(
+    assert_existence(
         &rt,
         &[
             (1987, 2, 28, true),
@@ -128,31 +108,32 @@ fn february_has_29_days_in_a_leap_year_alone(rt: HostRuntime) {
 fn the_year_decides_then_the_month_then_the_day_and_unknown_is_earlier(
     rt: HostRuntime,
 ) -> Result<(), Fail> {
-    are_in_order(
+    assert_order(
         &rt,
         &[
-            (1986, 12, 31),
-            (1987, 0, 0),
-            (1987, 1, 0),
-            (1987, 1, 1),
-            (1987, 1, 31),
-            (1987, 2, 0),
-            (1988, 1, 1),
+            date(1986, 12, 31)?,
+            date(1987, 0, 0)?,
+            date(1987, 1, 0)?,
+            date(1987, 1, 1)?,
+            date(1987, 1, 31)?,
+            date(1987, 2, 0)?,
+            date(1988, 1, 1)?,
         ],
-    )
+    );
+    Ok(())
 }
 
 #[test]
 fn the_year_comes_first_in_the_bytes_with_its_low_byte_first(rt: HostRuntime) -> Result<(), Fail> {
-    has_bytes(&rt, 1, 0, 0, [1, 0, 0, 0])?;
-    has_bytes(&rt, 1987, 6, 0, [0xC3, 0x07, 6, 0])?;
-    has_bytes(&rt, 9999, 12, 31, [0x0F, 0x27, 12, 31])
+    assert_bytes(&rt, date(1, 0, 0)?, [1, 0, 0, 0])?;
+    assert_bytes(&rt, date(1987, 6, 0)?, [0xC3, 0x07, 6, 0])?;
+    assert_bytes(&rt, date(9999, 12, 31)?, [0x0F, 0x27, 12, 31])
 }
 
 #[test]
 fn bytes_of_no_date_are_refused(rt: HostRuntime) {
     // 1987-0-5, 1900-2-29, 0-1-1, 10000-1-1, and the largest bytes.
-    are_of_no_date(
+    assert_no_dates(
         &rt,
         &[
             [0xC3, 0x07, 0, 5],
