@@ -1,9 +1,8 @@
 // Scripts that are read, and the calls that they make.
 use crate::runs::{operation, question};
 use crate::survey_dates::date;
-use book::Call;
+use book::Call::{self, Ask, Enter};
 use dates::{DayNumber, NoSuchDate, SurveyDate};
-use machines::{Operation, Question};
 use script::{Line, Script, parse};
 use std::alloc::Global;
 use std::process::Abort;
@@ -13,25 +12,8 @@ fn day(number: i32) -> DayNumber {
     DayNumber::new(number)
 }
 
-fn enter<D>(number: usize, date: D, operation: Operation) -> Line<D> {
-    Line {
-        number,
-        call: Ok(Call::Enter(date, operation)),
-    }
-}
-
-fn ask<D>(number: usize, date: D, question: Question) -> Line<D> {
-    Line {
-        number,
-        call: Ok(Call::Ask(date, question)),
-    }
-}
-
-fn no_such_date<D>(number: usize) -> Line<D> {
-    Line {
-        number,
-        call: Err(NoSuchDate),
-    }
+fn line<D>(number: usize, call: Result<Call<D>, NoSuchDate>) -> Line<D> {
+    Line { number, call }
 }
 
 // The lines of a script of days.
@@ -50,10 +32,10 @@ fn read_surveys(heap: Global, text: &str) -> Result<Vec<Line<SurveyDate>>, Fail>
     }
 }
 
-fn are_lines<D: PartialEq>(rt: &impl Abort, found: &[Line<D>], expected: &[Line<D>]) {
+fn assert_lines<D: PartialEq>(rt: &impl Abort, found: &[Line<D>], expected: &[Line<D>]) {
     assert_eq!(rt; found.len(), expected.len());
-    for (line, wanted) in found.iter().zip(expected) {
-        assert!(rt; line == wanted, "line {}", wanted.number);
+    for (read, wanted) in found.iter().zip(expected) {
+        assert!(rt; read == wanted, "line {}", wanted.number);
     }
 }
 
@@ -68,7 +50,11 @@ fn a_script_with_no_call_is_read(rt: HostRuntime) -> Result<(), Fail> {
 #[test]
 fn the_last_kind_named_before_the_first_call_stands(rt: HostRuntime) -> Result<(), Fail> {
     let lines = read_days(rt.alloc(), "dates days\nask 10 waiting")?;
-    are_lines(&rt, lines.as_slice(), &[ask(2, day(10), question(2, 0, 0))]);
+    assert_lines(
+        &rt,
+        lines.as_slice(),
+        &[line(2, Ok(Ask(day(10), question(2, 0, 0))))],
+    );
     assert!(rt; read_days(rt.alloc(), "dates survey\n\ndates days")?.is_empty());
     Ok(())
 }
@@ -83,15 +69,15 @@ fn each_operation_is_read(rt: HostRuntime) -> Result<(), Fail> {
          enter 10 set 2 3\n\
          enter 10 op 65535 65535 -2147483648",
     )?;
-    are_lines(
+    assert_lines(
         &rt,
         lines.as_slice(),
         &[
-            enter(1, day(10), operation(1, 1, 5)),
-            enter(2, day(10), operation(2, 0, 7)),
-            enter(3, day(10), operation(3, 0, 0)),
-            enter(4, day(10), operation(4, 2, 3)),
-            enter(5, day(10), operation(65535, 65535, -2147483648)),
+            line(1, Ok(Enter(day(10), operation(1, 1, 5)))),
+            line(2, Ok(Enter(day(10), operation(2, 0, 7)))),
+            line(3, Ok(Enter(day(10), operation(3, 0, 0)))),
+            line(4, Ok(Enter(day(10), operation(4, 2, 3)))),
+            line(5, Ok(Enter(day(10), operation(65535, 65535, -2147483648)))),
         ],
     );
     Ok(())
@@ -107,15 +93,15 @@ fn each_question_is_read(rt: HostRuntime) -> Result<(), Fail> {
          ask 10 status 2\n\
          ask 10 question 65535 65535 2147483647",
     )?;
-    are_lines(
+    assert_lines(
         &rt,
         lines.as_slice(),
         &[
-            ask(1, day(10), question(1, 1, 0)),
-            ask(2, day(10), question(2, 0, 0)),
-            ask(3, day(10), question(3, 0, 7)),
-            ask(4, day(10), question(4, 2, 0)),
-            ask(5, day(10), question(65535, 65535, 2147483647)),
+            line(1, Ok(Ask(day(10), question(1, 1, 0)))),
+            line(2, Ok(Ask(day(10), question(2, 0, 0)))),
+            line(3, Ok(Ask(day(10), question(3, 0, 7)))),
+            line(4, Ok(Ask(day(10), question(4, 2, 0)))),
+            line(5, Ok(Ask(day(10), question(65535, 65535, 2147483647)))),
         ],
     );
     Ok(())
@@ -130,14 +116,14 @@ fn numbers_may_have_signs_and_leading_zeros(rt: HostRuntime) -> Result<(), Fail>
          enter -2147483648 draw\n\
          enter 2147483647 draw",
     )?;
-    are_lines(
+    assert_lines(
         &rt,
         lines.as_slice(),
         &[
-            enter(1, day(5), operation(1, 1, -5)),
-            enter(2, day(-5), operation(1, 1, 5)),
-            enter(3, day(-2147483648), operation(3, 0, 0)),
-            enter(4, day(2147483647), operation(3, 0, 0)),
+            line(1, Ok(Enter(day(5), operation(1, 1, -5)))),
+            line(2, Ok(Enter(day(-5), operation(1, 1, 5)))),
+            line(3, Ok(Enter(day(-2147483648), operation(3, 0, 0)))),
+            line(4, Ok(Enter(day(2147483647), operation(3, 0, 0)))),
         ],
     );
     Ok(())
@@ -154,13 +140,13 @@ fn comments_and_blanks_are_left_out(rt: HostRuntime) -> Result<(), Fail> {
          enter 11 draw#\r\n\
          enter 12 draw",
     )?;
-    are_lines(
+    assert_lines(
         &rt,
         lines.as_slice(),
         &[
-            enter(3, day(10), operation(3, 0, 0)),
-            enter(5, day(11), operation(3, 0, 0)),
-            enter(6, day(12), operation(3, 0, 0)),
+            line(3, Ok(Enter(day(10), operation(3, 0, 0)))),
+            line(5, Ok(Enter(day(11), operation(3, 0, 0)))),
+            line(6, Ok(Enter(day(12), operation(3, 0, 0)))),
         ],
     );
     Ok(())
@@ -176,14 +162,14 @@ fn the_parts_of_a_survey_date_may_be_left_out(rt: HostRuntime) -> Result<(), Fai
          enter 1987-6-0 draw\n\
          ask 2000-02-29 waiting",
     )?;
-    are_lines(
+    assert_lines(
         &rt,
         lines.as_slice(),
         &[
-            enter(2, date(1987, 0, 0)?, operation(3, 0, 0)),
-            enter(3, date(1987, 6, 0)?, operation(3, 0, 0)),
-            enter(4, date(1987, 6, 0)?, operation(3, 0, 0)),
-            ask(5, date(2000, 2, 29)?, question(2, 0, 0)),
+            line(2, Ok(Enter(date(1987, 0, 0)?, operation(3, 0, 0)))),
+            line(3, Ok(Enter(date(1987, 6, 0)?, operation(3, 0, 0)))),
+            line(4, Ok(Enter(date(1987, 6, 0)?, operation(3, 0, 0)))),
+            line(5, Ok(Ask(date(2000, 2, 29)?, question(2, 0, 0)))),
         ],
     );
     Ok(())
@@ -199,14 +185,14 @@ fn a_date_that_does_not_exist_is_no_error_of_the_script(rt: HostRuntime) -> Resu
          enter 65535-255-255 draw\n\
          enter 1987 draw",
     )?;
-    are_lines(
+    assert_lines(
         &rt,
         lines.as_slice(),
         &[
-            no_such_date(2),
-            no_such_date(3),
-            no_such_date(4),
-            enter(5, date(1987, 0, 0)?, operation(3, 0, 0)),
+            line(2, Err(NoSuchDate)),
+            line(3, Err(NoSuchDate)),
+            line(4, Err(NoSuchDate)),
+            line(5, Ok(Enter(date(1987, 0, 0)?, operation(3, 0, 0)))),
         ],
     );
     Ok(())
