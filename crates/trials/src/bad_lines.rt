@@ -19,7 +19,8 @@ const NOT_UNSIGNED: &str = "not a number from 0 to 65535";
 
 const NOT_SIGNED: &str = "not a number from -2147483648 to 2147483647";
 
-fn is_bad(
+// The script has this line as its first bad one, for this reason.
+fn assert_bad_line(
     rt: &(impl Abort + AllocGlobal),
     text: &str,
     line: usize,
@@ -36,22 +37,22 @@ fn is_bad(
     }
 }
 
-// Each script has this line as its first bad one, for this reason.
-fn are_bad(
+// Each of the scripts has this line as its first bad one, for this reason.
+fn assert_bad_lines(
     rt: &(impl Abort + AllocGlobal),
     line: usize,
     reason: &str,
     texts: &[&str],
 ) -> Result<(), Fail> {
     for text in texts {
-        is_bad(rt, text, line, reason)?;
+        assert_bad_line(rt, text, line, reason)?;
     }
     Ok(())
 }
 
 #[test]
 fn a_command_is_enter_or_ask_with_a_date(rt: HostRuntime) -> Result<(), Fail> {
-    are_bad(
+    assert_bad_lines(
         &rt,
         1,
         NO_COMMAND,
@@ -68,7 +69,7 @@ fn a_command_is_enter_or_ask_with_a_date(rt: HostRuntime) -> Result<(), Fail> {
 
 #[test]
 fn the_kinds_of_date_are_days_and_survey(rt: HostRuntime) -> Result<(), Fail> {
-    are_bad(
+    assert_bad_lines(
         &rt,
         1,
         NO_KIND,
@@ -83,7 +84,7 @@ fn the_kinds_of_date_are_days_and_survey(rt: HostRuntime) -> Result<(), Fail> {
 
 #[test]
 fn the_kind_of_date_is_not_named_after_a_call(rt: HostRuntime) -> Result<(), Fail> {
-    are_bad(
+    assert_bad_lines(
         &rt,
         2,
         LATE_KIND,
@@ -93,7 +94,7 @@ fn the_kind_of_date_is_not_named_after_a_call(rt: HostRuntime) -> Result<(), Fai
 
 #[test]
 fn an_operation_has_its_number_of_words(rt: HostRuntime) -> Result<(), Fail> {
-    are_bad(
+    assert_bad_lines(
         &rt,
         1,
         NO_OPERATION,
@@ -116,7 +117,7 @@ fn an_operation_has_its_number_of_words(rt: HostRuntime) -> Result<(), Fail> {
 
 #[test]
 fn a_question_has_its_number_of_words(rt: HostRuntime) -> Result<(), Fail> {
-    are_bad(
+    assert_bad_lines(
         &rt,
         1,
         NO_QUESTION,
@@ -139,7 +140,7 @@ fn a_question_has_its_number_of_words(rt: HostRuntime) -> Result<(), Fail> {
 
 #[test]
 fn a_code_and_a_place_are_0_to_65535(rt: HostRuntime) -> Result<(), Fail> {
-    are_bad(
+    assert_bad_lines(
         &rt,
         1,
         NOT_UNSIGNED,
@@ -157,7 +158,7 @@ fn a_code_and_a_place_are_0_to_65535(rt: HostRuntime) -> Result<(), Fail> {
 
 #[test]
 fn an_amount_and_an_index_are_numbers_of_32_bits(rt: HostRuntime) -> Result<(), Fail> {
-    are_bad(
+    assert_bad_lines(
         &rt,
         1,
         NOT_SIGNED,
@@ -174,7 +175,7 @@ fn an_amount_and_an_index_are_numbers_of_32_bits(rt: HostRuntime) -> Result<(), 
 
 #[test]
 fn a_day_is_a_number_of_32_bits(rt: HostRuntime) -> Result<(), Fail> {
-    are_bad(
+    assert_bad_lines(
         &rt,
         1,
         NO_DATE,
@@ -189,7 +190,7 @@ fn a_day_is_a_number_of_32_bits(rt: HostRuntime) -> Result<(), Fail> {
 
 #[test]
 fn a_survey_date_is_one_to_three_numbers_that_fit(rt: HostRuntime) -> Result<(), Fail> {
-    are_bad(
+    assert_bad_lines(
         &rt,
         2,
         NO_DATE,
@@ -207,7 +208,7 @@ fn a_survey_date_is_one_to_three_numbers_that_fit(rt: HostRuntime) -> Result<(),
 
 #[test]
 fn the_date_is_read_before_the_operation(rt: HostRuntime) -> Result<(), Fail> {
-    are_bad(
+    assert_bad_lines(
         &rt,
         1,
         NO_DATE,
@@ -217,7 +218,7 @@ fn the_date_is_read_before_the_operation(rt: HostRuntime) -> Result<(), Fail> {
 
 #[test]
 fn lines_are_numbered_from_1_with_blank_lines_and_comments(rt: HostRuntime) -> Result<(), Fail> {
-    are_bad(
+    assert_bad_lines(
         &rt,
         3,
         NO_COMMAND,

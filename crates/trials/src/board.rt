@@ -6,7 +6,7 @@ use primitives::{Board, SET};
 use std::process::Abort;
 use std::test::Fail;
 
-fn paths_and_statuses_end<M: Machine>(rt: &impl Abort) {
+fn assert_paths_and_statuses_end<M: Machine>(rt: &impl Abort) {
     assert!(rt; M::knows(&set(63, 0)));
     assert!(rt; !M::knows(&set(63, -1)));
     assert!(rt; M::knows(&set(63, 7)));
@@ -18,7 +18,7 @@ fn paths_and_statuses_end<M: Machine>(rt: &impl Abort) {
 }
 
 // A set notes the old status, and its taking back restores it.
-fn set_notes_the_old<M: Machine>(rt: &(impl Abort + AllocGlobal)) -> Result<(), Fail> {
+fn assert_set_notes_the_old<M: Machine>(rt: &(impl Abort + AllocGlobal)) -> Result<(), Fail> {
     let mut machine = Trial::<M>::new(rt.alloc())?;
     assert_eq!(rt; machine.step(set(63, 7))?, Some(0));
     assert_eq!(rt; machine.step(set(63, 2))?, Some(7));
@@ -32,22 +32,22 @@ fn set_notes_the_old<M: Machine>(rt: &(impl Abort + AllocGlobal)) -> Result<(), 
 
 #[test]
 fn the_paths_of_a_board_end_at_63_and_its_statuses_at_7(rt: HostRuntime) {
-    paths_and_statuses_end::<Board>(&rt);
+    assert_paths_and_statuses_end::<Board>(&rt);
 }
 
 #[test]
 fn the_paths_of_a_pair_end_at_63_and_its_statuses_at_7(rt: HostRuntime) {
-    paths_and_statuses_end::<HouseMachine>(&rt);
+    assert_paths_and_statuses_end::<HouseMachine>(&rt);
 }
 
 #[test]
 fn a_set_of_a_board_notes_the_old_status(rt: HostRuntime) -> Result<(), Fail> {
-    set_notes_the_old::<Board>(&rt)
+    assert_set_notes_the_old::<Board>(&rt)
 }
 
 #[test]
 fn a_set_of_a_pair_notes_the_old_status(rt: HostRuntime) -> Result<(), Fail> {
-    set_notes_the_old::<HouseMachine>(&rt)
+    assert_set_notes_the_old::<HouseMachine>(&rt)
 }
 
 #[test]

@@ -7,7 +7,7 @@ use std::process::Abort;
 use std::test::Fail;
 
 // The jobs are 0 to 999,999 and the indexes 0 to 1,023, at place 0 alone, and a draw has amount 0.
-fn jobs_and_indexes_end<M: Machine>(rt: &impl Abort) {
+fn assert_jobs_and_indexes_end<M: Machine>(rt: &impl Abort) {
     assert!(rt; M::knows(&order(0)));
     assert!(rt; !M::knows(&order(-1)));
     assert!(rt; M::knows(&order(999_999)));
@@ -26,7 +26,7 @@ fn jobs_and_indexes_end<M: Machine>(rt: &impl Abort) {
 }
 
 // 1,024 jobs wait. One more order is idle, and so is its taking back; the taking back of the last order makes room again.
-fn room_ends<M: Machine>(rt: &(impl Abort + AllocGlobal)) -> Result<(), Fail> {
+fn assert_room_ends<M: Machine>(rt: &(impl Abort + AllocGlobal)) -> Result<(), Fail> {
     let mut machine = Trial::<M>::new(rt.alloc())?;
     assert!(rt; machine.moves(order(7), 1023)?);
     assert_eq!(rt; machine.step(order(8))?, Some(0));
@@ -46,7 +46,7 @@ fn room_ends<M: Machine>(rt: &(impl Abort + AllocGlobal)) -> Result<(), Fail> {
 }
 
 // A draw notes the job at the front, and its taking back puts the job there again.
-fn draw_takes_the_front<M: Machine>(rt: &(impl Abort + AllocGlobal)) -> Result<(), Fail> {
+fn assert_draw_takes_the_front<M: Machine>(rt: &(impl Abort + AllocGlobal)) -> Result<(), Fail> {
     let mut machine = Trial::<M>::new(rt.alloc())?;
     assert_eq!(rt; machine.step(order(11))?, Some(0));
     assert_eq!(rt; machine.step(order(999_999))?, Some(0));
@@ -62,32 +62,32 @@ fn draw_takes_the_front<M: Machine>(rt: &(impl Abort + AllocGlobal)) -> Result<(
 
 #[test]
 fn the_jobs_of_a_queue_are_0_to_999_999_and_its_indexes_0_to_1023(rt: HostRuntime) {
-    jobs_and_indexes_end::<Queue>(&rt);
+    assert_jobs_and_indexes_end::<Queue>(&rt);
 }
 
 #[test]
 fn the_jobs_of_a_pair_are_0_to_999_999_and_its_indexes_0_to_1023(rt: HostRuntime) {
-    jobs_and_indexes_end::<HouseMachine>(&rt);
+    assert_jobs_and_indexes_end::<HouseMachine>(&rt);
 }
 
 #[test]
 fn the_room_of_a_queue_ends_with_1024_jobs(rt: HostRuntime) -> Result<(), Fail> {
-    room_ends::<Queue>(&rt)
+    assert_room_ends::<Queue>(&rt)
 }
 
 #[test]
 fn the_room_of_a_pair_ends_with_1024_jobs(rt: HostRuntime) -> Result<(), Fail> {
-    room_ends::<HouseMachine>(&rt)
+    assert_room_ends::<HouseMachine>(&rt)
 }
 
 #[test]
 fn a_draw_of_a_queue_takes_the_front(rt: HostRuntime) -> Result<(), Fail> {
-    draw_takes_the_front::<Queue>(&rt)
+    assert_draw_takes_the_front::<Queue>(&rt)
 }
 
 #[test]
 fn a_draw_of_a_pair_takes_the_front(rt: HostRuntime) -> Result<(), Fail> {
-    draw_takes_the_front::<HouseMachine>(&rt)
+    assert_draw_takes_the_front::<HouseMachine>(&rt)
 }
 
 #[test]

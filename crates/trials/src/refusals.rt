@@ -7,7 +7,7 @@ use std::process::Abort;
 use std::test::Fail;
 
 // Refused by the machine, with this number and text.
-fn is_refused(
+fn assert_refused(
     rt: &(impl Abort + AllocGlobal),
     found: Result<(), MachineFault>,
     number: u16,
@@ -31,7 +31,7 @@ fn no_such_date_is_refusal_1_of_the_date(rt: HostRuntime) -> Result<(), Fail> {
 #[test]
 fn an_unknown_operation_is_refusal_2_of_the_machine(rt: HostRuntime) -> Result<(), Fail> {
     assert!(rt; check_operation::<Tally>(&change(63, 0)).is_ok());
-    is_refused(
+    assert_refused(
         &rt,
         check_operation::<Tally>(&change(64, 0)),
         2,
@@ -42,7 +42,7 @@ fn an_unknown_operation_is_refusal_2_of_the_machine(rt: HostRuntime) -> Result<(
 #[test]
 fn an_unanswered_question_is_refusal_6_of_the_machine(rt: HostRuntime) -> Result<(), Fail> {
     assert!(rt; check_question::<Tally>(&count(63)).is_ok());
-    is_refused(
+    assert_refused(
         &rt,
         check_question::<Tally>(&count(64)),
         6,

@@ -7,7 +7,7 @@ use std::process::Abort;
 use std::test::Fail;
 
 // The cells of a kind of machine are at the places up to this one, and their amounts are -1,000,000 to 1,000,000.
-fn cells_end<M: Machine>(rt: &impl Abort, last: u16) {
+fn assert_cells_end<M: Machine>(rt: &impl Abort, last: u16) {
     assert!(rt; M::knows(&change(last, 1_000_000)));
     assert!(rt; !M::knows(&change(last, 1_000_001)));
     assert!(rt; !M::knows(&change(last, i32::MAX)));
@@ -23,7 +23,7 @@ fn cells_end<M: Machine>(rt: &impl Abort, last: u16) {
 
 // 2,000 changes by a million, up or down, reach the last count. One more by 1 is idle and leaves it, and so does its taking
 // back; the taking back of the last change restores the count before.
-fn counts_end<M: Machine>(rt: &(impl Abort + AllocGlobal), place: u16) -> Result<(), Fail> {
+fn assert_counts_end<M: Machine>(rt: &(impl Abort + AllocGlobal), place: u16) -> Result<(), Fail> {
     let mut machine = Trial::<M>::new(rt.alloc())?;
     assert!(rt; machine.moves(change(place, 1_000_000), 2000)?);
     assert_eq!(rt; machine.read(count(place)), Some(2_000_000_000));
@@ -46,32 +46,32 @@ fn counts_end<M: Machine>(rt: &(impl Abort + AllocGlobal), place: u16) -> Result
 
 #[test]
 fn the_cells_of_a_tally_end_at_63_and_its_amounts_at_a_million(rt: HostRuntime) {
-    cells_end::<Tally>(&rt, 63);
+    assert_cells_end::<Tally>(&rt, 63);
 }
 
 #[test]
 fn the_cells_of_a_pair_end_at_63_and_its_amounts_at_a_million(rt: HostRuntime) {
-    cells_end::<HouseMachine>(&rt, 63);
+    assert_cells_end::<HouseMachine>(&rt, 63);
 }
 
 #[test]
 fn the_cells_of_an_inset_end_at_127_and_its_amounts_at_a_million(rt: HostRuntime) {
-    cells_end::<TallyAt64>(&rt, 127);
+    assert_cells_end::<TallyAt64>(&rt, 127);
 }
 
 #[test]
 fn the_counts_of_a_tally_end_at_two_billion_either_way(rt: HostRuntime) -> Result<(), Fail> {
-    counts_end::<Tally>(&rt, 63)
+    assert_counts_end::<Tally>(&rt, 63)
 }
 
 #[test]
 fn the_counts_of_a_pair_end_at_two_billion_either_way(rt: HostRuntime) -> Result<(), Fail> {
-    counts_end::<HouseMachine>(&rt, 63)
+    assert_counts_end::<HouseMachine>(&rt, 63)
 }
 
 #[test]
 fn the_counts_of_an_inset_end_at_two_billion_either_way(rt: HostRuntime) -> Result<(), Fail> {
-    counts_end::<TallyAt64>(&rt, 127)
+    assert_counts_end::<TallyAt64>(&rt, 127)
 }
 
 #[test]
