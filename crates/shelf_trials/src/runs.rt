@@ -4,7 +4,6 @@ use crate::trial::Trial;
 use dates::DayNumber;
 use machines::{Counter, Note, Operation};
 use shelf::{joined_up_to, set_note};
-use std::alloc::AllocError;
 use std::test::Fail;
 use watches::Watch;
 
@@ -48,14 +47,12 @@ impl<W: Watch + Drop> Trial<W> {
     }
 
     // What the watched machine reads after steps with the standing entries dated no later than the day.
-    fn read_up_to(&self, number: i32) -> Result<Option<i64>, AllocError> {
+    fn read_up_to(&self, number: i32) -> Result<Option<i64>, Fail> {
         let mut counter = Counter::<W::Machine>::new(*self.slots.allocator())?;
         for k in 0..self.count_up_to(number) {
-            if let Some(i) = self.find(k)
-                && let Some(slot) = self.slots.get(i as usize)
-            {
-                counter.step(&slot.operation);
-            }
+            let i = self.find(k).ok_or("fewer entries than are counted")?;
+            let slot = self.slots.get(i as usize).ok_or("no such slot")?;
+            counter.step(&slot.operation);
         }
         Ok(counter.read(&self.watch.question()))
     }
