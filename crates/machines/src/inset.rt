@@ -49,6 +49,7 @@ impl<M: Machine, const BASE: u16> Machine for Inset<M, BASE> {
         lower_operation(operation, BASE).is_some_and(|lowered| M::knows(&lowered))
     }
 
+    // As `knows`, of the other type.
     fn answers(question: &Question) -> bool {
         lower_question(question, BASE).is_some_and(|lowered| M::answers(&lowered))
     }

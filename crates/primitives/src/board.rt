@@ -8,7 +8,7 @@ use crate::numbers::{Numbers, PLACES};
 use machines::{Machine, Note, Operation, Question};
 use std::alloc::{AllocError, Global};
 
-// The code of the operation `set`, whose amount is the new status of a path, and of the question for the status of a path.
+// (A code is a number: the head of the crate says why.) The code of the operation `set`, whose amount is the new status of a path, and of the question for the status of a path.
 pub const SET: u16 = 4;
 
 const SETS: Form = Form {

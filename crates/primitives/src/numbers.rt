@@ -11,6 +11,8 @@ pub const PLACES: u16 = 64;
 // The numbers of the places, all 0 at first. The question of the code CODE reads one of them.
 #[derive(Drop)]
 pub(crate) struct Numbers<const CODE: u16> {
+    // A place is made an index by `as`, which loses nothing. `usize::from` was tried: the index is then what a call answers, and the proofs that
+    // speak of what is written at a place do not close as they stand.
     pub(crate) items: [i32; PLACES as usize],
     ghost long: { length items ≡ 64 },
 }

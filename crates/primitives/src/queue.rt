@@ -11,10 +11,10 @@ use machines::{Machine, Note, Operation, Question};
 use std::alloc::{AllocError, Global};
 use std::collections::VecDeque;
 
-// The code of the operation `order`, whose amount is a job, and of the question how many jobs wait.
+// (A code is a number: the head of the crate says why.) The code of the operation `order`, whose amount is a job, and of the question how many jobs wait.
 pub const ORDER: u16 = 2;
 
-// The code of the operation `draw`, and of the question which job waits at an index.
+// (A code is a number: the head of the crate says why.) The code of the operation `draw`, and of the question which job waits at an index.
 pub const DRAW: u16 = 3;
 
 const MOST_JOBS: usize = 1024;

@@ -10,7 +10,7 @@ use crate::numbers::{Numbers, PLACES};
 use machines::{Machine, Note, Operation, Question};
 use std::alloc::{AllocError, Global};
 
-// The code of the operation `change`, which adds its amount to a cell, and of the question for the count of a cell.
+// (A code is a number: the head of the crate says why.) The code of the operation `change`, which adds its amount to a cell, and of the question for the count of a cell.
 pub const CHANGE: u16 = 1;
 
 const CHANGES: Form = Form {

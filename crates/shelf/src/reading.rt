@@ -1,4 +1,5 @@
 // The calls that read a shelf: each goes down one way, and takes the figures of the sides that it passes by.
+// (Slots, root, watch, link and depth are parameters of their own: the head of the crate says why.)
 ghost use Rattle.std.specs.Prelude.{◌≡◌, ◌≤◌, length};
 ghost use Rattle.shelf.specs.Reading.{CountsUpTo, CountsBefore, JoinsUpTo, ReadsUpTo, Finds};
 ghost use Rattle.shelf.specs.Ways.{Counts, Joins, Selects};
@@ -35,7 +36,8 @@ pub fn count_up_to<D: Date, S: Summary>(shelf: &[Slot<S>], root: u16, date: &D) 
     count_ahead(shelf, root, Place::behind(*date), most_levels())
 }
 
-// How many standing entries are in front of the entry in slot `i` in book order; 0 where there is no such slot.
+// How many standing entries are in front of the entry in slot `i` in book order; 0 where there is no such slot, so
+// that a caller has nothing to take apart.
 pub fn count_before<D: Date, S: Summary>(shelf: &[Slot<S>], root: u16, i: u16) -> u16
     ensures refused { length shelf.now ≤ i → result ≡ 0 }
     ensures counted { CountsBefore D.Date.model S.Summary.model shelf.now root i result }

@@ -1,5 +1,6 @@
 // The calls that write to a shelf. Entry n lies in slot n - 1, so the number `n` of a slot is the number of entries that
 // came before it.
+// (Slots, root, watch, link and depth are parameters of their own: the head of the crate says why.)
 ghost use Rattle.std.specs.Prelude.{◌≡◌, ℕ, ◌<◌, List, length};
 ghost use Rattle.machines.specs.declared.operation.Operation.{Operation};
 ghost use Rattle.slots.specs.declared.slot.Slot.{Slot};
@@ -20,7 +21,7 @@ use watches::{Summary, Watch};
 // The most entries of a book.
 const MOST_ENTRIES: u16 = 1_024;
 
-// The root link of a shelf that has no entries: a number that no slot has.
+// The root link of a shelf that has no entries: a number that no slot has. It is no Option, as links are none: a lent shelf may hold any number.
 pub fn no_root<D: Date, S: Summary>() -> u16
     ensures sound { (summed : Operation → S) (slots : List (Slot S)) → length slots < 65536 → Sound D.Date.model S.Summary.model summed slots result 0 }
 {

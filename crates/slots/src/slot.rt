@@ -19,6 +19,7 @@ pub struct Slot<S> {
     pub note: Note,
     // A link is the number of a slot. One that is not below the number of slots leads nowhere. Links are numbers and no
     // pointers, since the slots are lent and no call takes memory, and no `Option`, since a lent shelf may hold any number.
+    // A link is made an index by `as usize`, which loses nothing; `usize::from` would put a call between the two.
     pub left: u16,
     pub right: u16,
     // the levels of the tree that this slot is the top of

@@ -32,6 +32,7 @@ fn read_surveys(heap: Global, text: &str) -> Result<Vec<Line<SurveyDate>>, Fail>
     }
 }
 
+// Line by line, so that a failure names the line.
 fn assert_lines<D: PartialEq>(rt: &impl Abort, found: &[Line<D>], expected: &[Line<D>]) {
     assert_eq!(rt; found.len(), expected.len());
     for (read, wanted) in found.iter().zip(expected) {

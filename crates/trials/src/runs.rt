@@ -8,6 +8,7 @@ use std::test::Fail;
 // A tally whose cells are at the places 64 to 127.
 pub(crate) type TallyAt64 = Inset<Tally, 64>;
 
+// The makers stand in `shelf_trials` too: two programs with no library in common.
 pub(crate) fn operation(code: u16, place: u16, amount: i32) -> Operation {
     Operation {
         code,

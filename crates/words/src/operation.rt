@@ -29,6 +29,7 @@ fn operation_of(code: &str, place: &str, amount: &str) -> Result<Operation, Reas
     })
 }
 
+// As `operation_of`, of the other type: what the two share is `raw_numbers`.
 fn question_of(code: &str, place: &str, index: &str) -> Result<Question, Reason>
     ensures { result ≡ raw_question code.now place.now index.now }
 {

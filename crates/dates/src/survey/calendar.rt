@@ -24,5 +24,6 @@ pub(super) fn is_date(year: u16, month: u8, day: u8) -> bool
     if month == 0 {
         return day == 0;
     }
+    // `as`, and no `From`, since a year and a month index a table here and no number is lost.
     day <= MONTH_LENGTHS[is_leap(year) as usize][month as usize - 1]
 }
