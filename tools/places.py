@@ -29,16 +29,15 @@ def grep(pattern):
 
 
 def functions():
-    """Each function with its signature, its clauses and its body."""
+    """Each function that has a body, with its signature and clauses, and its body."""
     head = re.compile(r'^( *)(?:pub(?:\([a-z]+\))? )?fn (\w+)', re.M)
     for file in files():
         text = file.read_text()
         for start in head.finditer(text):
-            end = re.compile(r'^' + start.group(1) + r'(?:\}|\{.*\})$|;$', re.M).search(text, start.end())
-            whole = text[start.start():end.end()]
-            opening = re.search(r'\{$', whole, re.M)
-            if opening:
-                yield file, start.group(2), whole[:opening.start()], whole[opening.start():]
+            opening = re.compile(r'\{$|\{\}$|;$', re.M).search(text, start.end())
+            if opening.group() == '{':
+                end = re.compile(r'^' + start.group(1) + r'\}$', re.M).search(text, opening.end())
+                yield file, start.group(2), text[start.start():opening.start()], text[opening.start():end.end()]
 
 
 def shape(code):
@@ -48,11 +47,11 @@ def shape(code):
 
 
 def twins():
-    """Functions of one crate whose bodies have one shape of 15 or more tokens; a test that only hands on a table is none."""
+    """Functions of one crate whose bodies have one shape of 12 or more tokens."""
     alike = defaultdict(list)
     for file, name, _, body in functions():
         form = shape(body)
-        if len(form.split()) >= 15 and not re.match(r'\{ _ (?:: : < .*? > )?\(', form):
+        if len(form.split()) >= 12:
             alike[file.parts[1], form].append(f'{file}: {name}')
     return [' ~ '.join(places) for places in alike.values() if len(places) > 1]
 
@@ -103,7 +102,7 @@ POINTS = {
     3: ('loops over numbers, and counts by hand', lambda: grep(r'\bwhile\b|for [^{]* in [^{]*\.\.|[+-]= 1;')),
     4: ('comparisons, conversions and printing by hand', lambda: grep(
         r'^impl.* (PartialEq|Eq|PartialOrd|Ord|Clone|Copy|From<.*>|TryFrom<.*>|fmt::Display) for'
-        r'|fn (is_same_\w+|compare|name|shown|full|text|giver|number|number_of|answer|places|new)\((?!_?heap)')),
+        r'| as (usize|[iu]\d+)\b|fn (is_same_\w+|compare|name|shown|full|text|giver|number|number_of|answer|places|new)\((?!_?heap)')),
     5: ('facts in three or more contracts, and parameters that travel together', lambda: [*facts(), *together()]),
     6: ('fields that are arrays or vectors, or number a slot, and lists searched by hand', lambda: [*fields(), *grep(r'while .*\[\w+ - 1\]')]),
     7: ('switches on what to do, and functions that are handed on', lambda: grep(r'match (act|fact|self\.order|operation|words)\b|: fn\(|impl Fn|\bdyn\b|\bFn(Once|Mut)?\(|^\s*(pub(\(crate\))? )?enum (Act|Fact|Order)\b')),
