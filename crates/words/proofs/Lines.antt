@@ -1,12 +1,20 @@
 -- The lines of a text are the pieces between its line feeds.
-use Rattle.std.proofs.Common.{◌≡◌, ℕ, ◌<◌, Bool, true, false, eqb, List, [], ◌∷◌, ◌++◌, length, sym, refl, ap, ◌∙◌, append-nil, arith}
+use Rattle.std.proofs.Common.{◌≡◌, ℕ, ◌<◌, Bool, true, false, eqb, List, [], ◌∷◌, ◌++◌, length, sym, refl, ap, ◌∙◌, append_assoc, append-nil, arith}
 use Rattle.std.proofs.lemmas.List.Splits.{length-slice_split}
-use Rattle.std.specs.List.{slice_split}
+use Rattle.std.specs.List.{onto_first, slice_split}
 use Rattle.words.specs.Text.{lines, lines_from}
-use Rattle.words.proofs.Words.{onto, onto_more}
 
 abbrev feed : ℕ → Bool
 feed b = eqb b 10
+
+-- the pieces, with a text before the first
+abbrev onto : List ℕ → List (List ℕ) → List (List ℕ)
+onto word [] = word ∷ []
+onto word (piece ∷ pieces) = (word ++ piece) ∷ pieces
+
+onto_more : (word : List ℕ) (b : ℕ) (pieces : List (List ℕ)) → onto word (onto_first b pieces) ≡ onto (word ++ (b ∷ [])) pieces
+onto_more word b [] = refl
+onto_more word b (piece ∷ pieces) = ap (λ w. w ∷ pieces) (sym (append_assoc word (b ∷ []) piece))
 
 onto_none : (pieces : List (List ℕ)) → 0 < length pieces → onto [] pieces ≡ pieces
 onto_none [] has = absurd (omega arith)
