@@ -79,6 +79,21 @@ module _ {D : Type 0} (dates : DateModel D) (lawful : Lawful dates) where
   parted date (x ∷ xs) sorted (suc i) zero d order within holds = absurd (omega arith)
   parted date (x ∷ xs) sorted (suc i) (suc j) d order within holds = parted date xs sorted.1 i j d (omega arith) (omega arith) holds
 
+  -- what is left behind some entries in book order is in book order
+  pub sorted_drop : (n : ℕ) (xs : List (Entry D)) → Sorted dates xs → Sorted dates (drop n xs)
+  sorted_drop zero xs sorted = sorted
+  sorted_drop (suc n) [] sorted = sorted
+  sorted_drop (suc n) (x ∷ xs) sorted = sorted_drop n xs sorted.1
+
+  -- the place lies behind an entry that is dated no later, and is found among the entries from there on
+  pub place_from : (date : D) (n : ℕ) (xs : List (Entry D)) → Sorted dates xs → n ≤ length xs → ((d : Entry D) → 0 < n → (n < length xs) × (later dates date (get_or xs n d) ≡ false)) → place dates date xs ≡ n + place dates date (drop n xs)
+  place_from date zero xs sorted within front = omega arith
+  place_from date (suc n) [] sorted within front = absurd (omega arith)
+  place_from date (suc n) (x ∷ xs) sorted within front =
+      let at = front x (omega arith) in
+      let first : later dates date x ≡ false = grind (rules, not_later_before date x (get_or xs n x) (All-from_recursion (Before dates x) xs sorted.0 n x (omega (arith, at.0))), at.1) in
+      omega (arith, place_behind dates date x xs first, place_from date n xs sorted.1 (omega arith) (λ d some. let h = front d (omega arith) in (omega (arith, h.0), h.1)))
+
   place_first : (date : D) (x : Entry D) (xs : List (Entry D)) → later dates date x ≡ true → Sorted dates (x ∷ xs) → place dates date (x ∷ xs) ≡ 0
   place_first date x xs passes sorted =
       let all = All-from_recursion (λ y. later dates date y ≡ true) (x ∷ xs) (all_later date x xs passes sorted) in

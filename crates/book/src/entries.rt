@@ -1,8 +1,9 @@
 // The entries of a book.
-ghost use Rattle.std.specs.Prelude.{◌≡◌, []};
+ghost use Rattle.std.specs.Prelude.{◌≡◌, ◌<◌, ◌≤◌, false, [], length, get_or};
 ghost use Rattle.std.specs.Result.{result_ok};
 ghost use Rattle.book.specs.Answers.{Done, answer_in, read};
-ghost use Rattle.book.specs.Order.{up_to, place, InBookOrder, KeepsOrder};
+ghost use Rattle.book.specs.Order.{later, up_to, place, InBookOrder, KeepsOrder};
+ghost use Rattle.book.specs.declared.entries.Entry.{Entry};
 ghost use Rattle.book.specs.declared.call.Accepted.TheVariants.{Entered};
 ghost use Rattle.book.specs.declared.call.Call.TheVariants.{Enter, Ask};
 
@@ -106,11 +107,26 @@ impl<D: Date> Entries<D> {
         accepted.map(Ok).or_else(Fault::answer)
     }
 
+    // From where on a place is searched: the front, or an entry that is dated no later. The stretch behind it is doubled from
+    // the end, so that one comparison is enough where entries come in by rising dates.
+    fn searched_from(&self, date: &D) -> usize
+        ensures bound { result ≤ length self.now }
+        ensures front { (d : Entry D) → 0 < result → (result < length self.now) × (later D.model date.now (get_or self.now result d) ≡ false) }
+    {
+        let entries = self.entries.as_slice();
+        let mut reach = 1;
+        while reach < entries.len() && entries[entries.len() - reach].date > *date {
+            reach *= 2;
+        }
+        entries.len().saturating_sub(reach)
+    }
+
     // Where a new entry of the date stands: in front of the entries that are later, which are at the end.
     fn place(&self, date: &D) -> usize
         ensures { result ≡ place D.model date.now self.now }
     {
-        self.entries.partition_point(|entry| entry.date <= *date)
+        let from = self.searched_from(date);
+        from + self.entries[from..].partition_point(|entry| entry.date <= *date)
     }
 
     // The entries dated no later, which stand at the front.
