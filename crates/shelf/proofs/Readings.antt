@@ -55,10 +55,10 @@ module _ {S : Type 0} (model : SummaryModel S) {D : Type 0} (dates : DateModel D
         first summed es a (record { tied = h.tied; chained = c.2; deep = omega arith; few = omega arith }) (onward_left (behind dates day number es) (inorder a) (j ∷ inorder b) onward)
         ∙ ap (λ xs. length (filter (standing es) xs)) (sym (front_left (behind dates day number es) (inorder a) j (inorder b) onward past))
 
-    pub counts_right : (left : Slot S) (rest r : ℕ) → left ≡ slot model slots at.left → r ≡ count_over left.count at.standing rest → ahead dates (dates.given at.date) link (Ok day) number ≡ true → Counts model dates day number slots at.right (depth - 1) rest → Counts model dates day number slots link depth r
+    pub counts_right : (before rest r : ℕ) → before ≡ (slot model slots at.left).count → r ≡ count_over before at.standing rest → ahead dates (dates.given at.date) link (Ok day) number ≡ true → Counts model dates day number slots at.right (depth - 1) rest → Counts model dates day number slots link depth r
     unfolding Chained
-    counts_right left rest r beside sum test p summed es leaf h onward = let c = h.chained in absurd (omega arith)
-    counts_right left rest r beside sum test p summed es (node a j b) h onward =
+    counts_right before rest r counted sum test p summed es leaf h onward = let c = h.chained in absurd (omega arith)
+    counts_right before rest r counted sum test p summed es (node a j b) h onward =
         let c = h.chained in
         let deep = h.deep in
         let few = h.few in
@@ -67,16 +67,16 @@ module _ {S : Type 0} (model : SummaryModel S) {D : Type 0} (dates : DateModel D
         let past : behind dates day number es j ≡ false = ap not (tested model summed dates slots link at read es j tied c.0 (Ok day) number ∙ test) in
         let later = (onward_right (behind dates day number es) (inorder a) (j ∷ inorder b) onward).1 in
         let right = first summed es b (record { tied = tied; chained = c.3; deep = omega arith; few = omega arith }) later in
-        let left_count = (figures_of model summed es slots (slot model slots j).left left a (rw (read, c.0) at beside) c.2).1 in
+        let left : before ≡ tree_count (standing es) a = (rw (read, c.0) at counted) ∙ (figures_of model summed es slots (slot model slots j).left a c.2).1 in
         let stands = ap (λ e. e.standing) (read_entry model summed es slots link j at read c.0 tied) in
         let small_a = count_small (standing es) a in
         let small_b = kept_small (standing es) (front (behind dates day number es) (inorder b)) in
         let small_c = kept_small (λ i. not (behind dates day number es i)) (inorder b) in
         let size_b = size_is_length b in
         let cut = kept_cut (standing es) a j (front (behind dates day number es) (inorder b)) in
-        let total = sum ∙ count_fits left.count at.standing rest (omega arith) (omega arith) in
+        let total = sum ∙ count_fits before at.standing rest (omega arith) (omega arith) in
         rw (front_right (behind dates day number es) (inorder a) j (inorder b) onward past)
-        (total ∙ ap (λ s. left.count + cond s 1 0 + rest) stands ∙ ap (λ x. x + cond (es j).standing 1 0 + rest) left_count ∙ ap (λ x. tree_count (standing es) a + cond (es j).standing 1 0 + x) right ∙ sym cut)
+        (total ∙ ap (λ s. before + cond s 1 0 + rest) stands ∙ ap (λ x. x + cond (es j).standing 1 0 + rest) left ∙ ap (λ x. tree_count (standing es) a + cond (es j).standing 1 0 + x) right ∙ sym cut)
 
 -- the joins, by a watch of weight at most 1
 module _ {S : Type 0} (model : SummaryModel S) (law : Lawful model) (summed : Operation → S) (light : (operation : Operation) → model.weight (summed operation) ≤ 1) where
@@ -114,10 +114,10 @@ module _ {S : Type 0} (model : SummaryModel S) (law : Lawful model) (summed : Op
           let past : behind dates day number es j ≡ true = ap not (tested model summed dates slots link at read es j h.tied c.0 (Ok day) number ∙ test) in
           rw past (first es a (record { tied = h.tied; chained = c.2; deep = omega arith; few = omega arith }))
 
-      pub joins_right : (left : Slot S) (own_j rest r : S) → left ≡ slot model slots at.left → own_j ≡ contribution model summed (entry at) → (model.weight left.joined + model.weight own_j + model.weight rest ≤ 4096 → r ≡ model.join (model.join left.joined own_j) rest) → ahead dates (dates.given at.date) link (Ok day) number ≡ true → Joins model summed dates day number slots at.right (depth - 1) rest → Joins model summed dates day number slots link depth r
+      pub joins_right : (before own_j rest r : S) → before ≡ (slot model slots at.left).joined → own_j ≡ contribution model summed (entry at) → (model.weight before + model.weight own_j + model.weight rest ≤ 4096 → r ≡ model.join (model.join before own_j) rest) → ahead dates (dates.given at.date) link (Ok day) number ≡ true → Joins model summed dates day number slots at.right (depth - 1) rest → Joins model summed dates day number slots link depth r
       unfolding Chained
-      joins_right left own_j rest r beside is sum test p es leaf h = let c = h.chained in absurd (omega arith)
-      joins_right left own_j rest r beside is sum test p es (node a j b) h =
+      joins_right before own_j rest r joined is sum test p es leaf h = let c = h.chained in absurd (omega arith)
+      joins_right before own_j rest r joined is sum test p es (node a j b) h =
           let c = h.chained in
           let deep = h.deep in
           let few = h.few in
@@ -125,11 +125,11 @@ module _ {S : Type 0} (model : SummaryModel S) (law : Lawful model) (summed : Op
           let first = rw (read, c.0) at p in
           let past : behind dates day number es j ≡ false = ap not (tested model summed dates slots link at read es j tied c.0 (Ok day) number ∙ test) in
           let right = first es b (record { tied = tied; chained = c.3; deep = omega arith; few = omega arith }) in
-          let left_joined = (figures_of model summed es slots (slot model slots j).left left a (rw (read, c.0) at beside) c.2).2 in
+          let left : before ≡ tree_join model (own model summed es) a = (rw (read, c.0) at joined) ∙ (figures_of model summed es slots (slot model slots j).left a c.2).2 in
           let told = read_entry model summed es slots link j at read c.0 tied in
           let here : own_j ≡ own model summed es j = is ∙ ap (contribution model summed) told in
           let light_a = tree_light model law (own model summed es) (own_light model law summed light es) a (omega arith) in
           let light_b = front_light es (behind dates day number es) b (omega arith) in
           let light_j = own_light model law summed light es j in
-          let total = sum (omega (arith, ap model.weight left_joined, ap model.weight right, ap model.weight here)) in
-          rw past (total ∙ ap (λ x. model.join (model.join x own_j) rest) left_joined ∙ ap (λ x. model.join (model.join (tree_join model (own model summed es) a) x) rest) here ∙ ap (model.join (model.join (tree_join model (own model summed es) a) (own model summed es j))) right)
+          let total = sum (omega (arith, ap model.weight left, ap model.weight right, ap model.weight here)) in
+          rw past (total ∙ ap (λ x. model.join (model.join x own_j) rest) left ∙ ap (λ x. model.join (model.join (tree_join model (own model summed es) a) x) rest) here ∙ ap (model.join (model.join (tree_join model (own model summed es) a) (own model summed es j))) right)

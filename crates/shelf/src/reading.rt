@@ -8,7 +8,7 @@ use crate::dating::Place;
 use avl::most_levels;
 use dates::Date;
 use slots::Slot;
-use slots::figures::{count_over, joined_over, slot_at};
+use slots::figures::{count_at, count_over, joined_at, joined_over};
 use watches::{Summary, Watch};
 
 // The standing entries in front of a place.
@@ -23,7 +23,7 @@ fn count_ahead<D: Date, S: Summary>(shelf: &[Slot<S>], link: u16, place: Place<D
     }
     if place.has_ahead(node.date, link) {
         let rest = count_ahead(shelf, node.right, place, depth - 1);
-        count_over(slot_at(shelf, node.left).count, node.standing, rest)
+        count_over(count_at(shelf, node.left), node.standing, rest)
     } else {
         count_ahead(shelf, node.left, place, depth - 1)
     }
@@ -71,8 +71,7 @@ fn joined_ahead<D: Date, W: Watch>(
     }
     if place.has_ahead(node.date, link) {
         let rest = joined_ahead(shelf, node.right, place, watch, depth - 1);
-        let left = slot_at(shelf, node.left);
-        joined_over(left.joined, node.contribution(watch), rest)
+        joined_over(joined_at(shelf, node.left), node.contribution(watch), rest)
     } else {
         joined_ahead(shelf, node.left, place, watch, depth - 1)
     }
@@ -108,7 +107,7 @@ fn find_at<S: Summary>(shelf: &[Slot<S>], link: u16, k: u16, depth: u8) -> Optio
 {
     let node = shelf.get(link as usize)?;
     let depth = depth.checked_sub(1)?;
-    let before = slot_at(shelf, node.left).count;
+    let before = count_at(shelf, node.left);
     if k < before {
         find_at(shelf, node.left, k, depth)
     } else if !node.standing {

@@ -20,10 +20,10 @@ then_kept model old mid new first second = record { same = λ k. second.same k �
 
 module _ {S : Type 0} (model : SummaryModel S) (summed : Operation → S) (es : ℕ → Entry) where
   -- the slot at a link has the figures of the tree there
-  pub figures_of : (slots : List (Slot S)) (link : ℕ) (top : Slot S) (t : Tree) → top ≡ slot model slots link → Chained model summed es slots link t → (top.level ≡ levels t) × (top.count ≡ tree_count (standing es) t) × (top.joined ≡ tree_join model (own model summed es) t)
+  pub figures_of : (slots : List (Slot S)) (link : ℕ) (t : Tree) → Chained model summed es slots link t → ((slot model slots link).level ≡ levels t) × ((slot model slots link).count ≡ tree_count (standing es) t) × ((slot model slots link).joined ≡ tree_join model (own model summed es) t)
   unfolding Chained
-  figures_of slots link top leaf read h = rw (read, get_or_past slots link (blank model) h) (refl, refl, refl)
-  figures_of slots link top (node a i b) read h = rw (read, h.0) (h.4, h.5, h.6)
+  figures_of slots link leaf h = rw (get_or_past slots link (blank model) h) (refl, refl, refl)
+  figures_of slots link (node a i b) h = rw h.0 (h.4, h.5, h.6)
 
   -- slots whose placements are those of the tree hold the tree
   pub frame : (old new : List (Slot S)) (link : ℕ) (t : Tree) → length new ≡ length old → ((k : ℕ) → In k (inorder t) → placement (slot model new k) ≡ placement (slot model old k)) → Chained model summed es old link t → Chained model summed es new link t

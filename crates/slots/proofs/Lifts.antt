@@ -1,5 +1,5 @@
 -- Rebalancing in slots is rebalancing of trees.
-use Rattle.std.proofs.Common.{◌≡◌, ℕ, ◌+◌, ◌<◌, ◌≤◌, List, ◌∷◌, ◌++◌, length, refl, inr, arith}
+use Rattle.std.proofs.Common.{◌≡◌, ℕ, ◌+◌, ◌<◌, ◌≤◌, List, ◌∷◌, ◌++◌, length, inr, arith}
 use Rattle.std.proofs.lemmas.Bool.{lt-ltb, le-ltb}
 use Rattle.avl.specs.Tree.{Tree, leaf, node, inorder, levels, size, turn_left, turn_right, lift_left, lift_right, mended, balance}
 use Rattle.avl.specs.Levels.{leaning}
@@ -42,8 +42,8 @@ module _ {S : Type 0} (model : SummaryModel S) (summed : Operation → S) where
       let small = turn_right_size b j c in
       let h = first es b c tied hb.2 hb.3 hb.1 (once_right (inorder a) (i ∷ (inorder b ++ j ∷ inorder c)) once).1 (omega arith) in
       let beside_a = beside model summed es old mid side left (turn_right b j c) a kept h (λ k v w. once_apart k (inorder a) (i ∷ (inorder b ++ j ∷ inorder c)) once w (inr (rw keeps at v))) ha in
-      let deep_b = (figures_of model summed es old (slot model old j).left _ b refl hb.2).0 in
-      let deep_c = (figures_of model summed es old (slot model old j).right _ c refl hb.3).0 in
+      let deep_b = (figures_of model summed es old (slot model old j).left b hb.2).0 in
+      let deep_c = (figures_of model summed es old (slot model old j).right c hb.3).0 in
       let test = lt-ltb (levels c) (levels b) (omega arith) in
       let g = q es a (turn_right b j c) (then_tied model summed es old mid kept tied) beside_a h.chained (omega arith) (rw keeps once) (omega arith) in
       rw test (then_formed model summed es old mid new side root (turn_right b j c) (turn_left a i (turn_right b j c)) (λ k w. rw turned (in_right k (inorder a) (i ∷ inorder (turn_right b j c)) (inr w))) h g)
@@ -52,8 +52,8 @@ module _ {S : Type 0} (model : SummaryModel S) (summed : Operation → S) where
   unfolding Chained lift_right
   lift_right_out old new left i right root within up read outward q es a leaf tied ha hb inside once few = absurd (omega arith)
   lift_right_out old new left i right root within up read outward q es a (node b j c) tied ha hb inside once few =
-      let deep_b = (figures_of model summed es old (slot model old j).left _ b refl hb.2).0 in
-      let deep_c = (figures_of model summed es old (slot model old j).right _ c refl hb.3).0 in
+      let deep_b = (figures_of model summed es old (slot model old j).left b hb.2).0 in
+      let deep_c = (figures_of model summed es old (slot model old j).right c hb.3).0 in
       let outwards = rw (read, hb.0) at outward in
       let test = le-ltb (levels c) (levels b) (omega arith) in
       rw test (q es a (node b j c) tied ha hb inside once few)
@@ -75,8 +75,8 @@ module _ {S : Type 0} (model : SummaryModel S) (summed : Operation → S) where
       let small = turn_left_size a j b in
       let h = first es a b tied ha.2 ha.3 ha.1 (once_left (inorder a ++ j ∷ inorder b) (i ∷ inorder c) once) (omega arith) in
       let beside_c = beside model summed es old mid side right (turn_left a j b) c kept h (λ k v w. once_apart k (inorder a ++ j ∷ inorder b) (i ∷ inorder c) once (rw keeps at v) (inr w)) hc in
-      let deep_a = (figures_of model summed es old (slot model old j).left _ a refl ha.2).0 in
-      let deep_b = (figures_of model summed es old (slot model old j).right _ b refl ha.3).0 in
+      let deep_a = (figures_of model summed es old (slot model old j).left a ha.2).0 in
+      let deep_b = (figures_of model summed es old (slot model old j).right b ha.3).0 in
       let test = lt-ltb (levels a) (levels b) (omega arith) in
       let g = q es (turn_left a j b) c (then_tied model summed es old mid kept tied) h.chained beside_c (omega arith) (rw keeps once) (omega arith) in
       rw test (then_formed model summed es old mid new side root (turn_left a j b) (turn_right (turn_left a j b) i c) (λ k w. rw turned (in_left k (inorder (turn_left a j b)) (i ∷ inorder c) w)) h g)
@@ -85,8 +85,8 @@ module _ {S : Type 0} (model : SummaryModel S) (summed : Operation → S) where
   unfolding Chained lift_left
   lift_left_out old new left i right root within up read outward q es leaf c tied ha hc inside once few = absurd (omega arith)
   lift_left_out old new left i right root within up read outward q es (node a j b) c tied ha hc inside once few =
-      let deep_a = (figures_of model summed es old (slot model old j).left _ a refl ha.2).0 in
-      let deep_b = (figures_of model summed es old (slot model old j).right _ b refl ha.3).0 in
+      let deep_a = (figures_of model summed es old (slot model old j).left a ha.2).0 in
+      let deep_b = (figures_of model summed es old (slot model old j).right b ha.3).0 in
       let outwards = rw (read, ha.0) at outward in
       let test = le-ltb (levels a) (levels b) (omega arith) in
       rw test (q es (node a j b) c tied ha hc inside once few)
@@ -95,5 +95,5 @@ module _ {S : Type 0} (model : SummaryModel S) (summed : Operation → S) where
   pub balance_by : (old new : List (Slot S)) (left i right root : ℕ) (lean : Lean) → lean ≡ leaning (slot model old left).level (slot model old right).level → Makes model summed (mended lean) old new left i right root → Makes model summed balance old new left i right root
   unfolding balance
   balance_by old new left i right root lean leans made es a b tied ha hb inside once few =
-      let here = rw ((figures_of model summed es old left _ a refl ha).0, (figures_of model summed es old right _ b refl hb).0) at leans in
+      let here = rw ((figures_of model summed es old left a ha).0, (figures_of model summed es old right b hb).0) at leans in
       rw (← here) (made es a b tied ha hb inside once few)

@@ -1,5 +1,5 @@
 // The three figures that a slot keeps of the tree beneath it: levels, standing entries, joined summaries. They are read
-// in the slot at a link, and made for a new top from those of its two sides.
+// at a link, and made for a new top from those of its two sides.
 ghost use Rattle.std.specs.Prelude.{◌≡◌, ◌+◌, ◌<◌, ◌≤◌, length};
 ghost use Rattle.slots.specs.Slots.{slot, count_over};
 ghost use Rattle.slots.specs.Chain.{Figured};
@@ -12,7 +12,34 @@ use watches::{Summary, Watch};
 pub fn slot_at<S: Summary>(shelf: &[Slot<S>], link: u16) -> Slot<S>
     ensures { result ≡ slot S.Summary.model shelf.now link }
 {
-    shelf.get(link as usize).copied().unwrap_or(Slot::blank())
+    match shelf.get(link as usize) {
+        Some(slot) => *slot,
+        None => Slot::blank(),
+    }
+}
+
+// The levels of the tree that a link leads to. This and the next two read one field through a reference, and copy no slot.
+pub fn level_at<S: Summary>(shelf: &[Slot<S>], link: u16) -> u16
+    ensures { result ≡ (slot S.Summary.model shelf.now link).level }
+{
+    shelf.get(link as usize).map_or(0, |slot| slot.level)
+}
+
+// The standing entries of the tree that a link leads to.
+pub fn count_at<S: Summary>(shelf: &[Slot<S>], link: u16) -> u16
+    ensures { result ≡ (slot S.Summary.model shelf.now link).count }
+{
+    shelf.get(link as usize).map_or(0, |slot| slot.count)
+}
+
+// The joined summaries of the tree that a link leads to. (`map_or_else` was tried, and the check does not cover it here.)
+pub fn joined_at<S: Summary>(shelf: &[Slot<S>], link: u16) -> S
+    ensures { result ≡ (slot S.Summary.model shelf.now link).joined }
+{
+    match shelf.get(link as usize) {
+        Some(slot) => slot.joined,
+        None => S::unit(),
+    }
 }
 
 // The standing entries of a tree whose sides have `left` and `right` of them. On a shelf of any content the sum may leave
@@ -39,6 +66,26 @@ pub(crate) struct Figures<S> {
     pub(crate) joined: S,
 }
 
+// The figures of the tree that a link leads to, as the three functions above read them one by one.
+fn figures_at<S: Summary>(shelf: &[Slot<S>], link: u16) -> Figures<S>
+    ensures level { result.level ≡ (slot S.Summary.model shelf.now link).level }
+    ensures count { result.count ≡ (slot S.Summary.model shelf.now link).count }
+    ensures joined { result.joined ≡ (slot S.Summary.model shelf.now link).joined }
+{
+    match shelf.get(link as usize) {
+        Some(slot) => Figures {
+            level: slot.level,
+            count: slot.count,
+            joined: slot.joined,
+        },
+        None => Figures {
+            level: 0,
+            count: 0,
+            joined: S::unit(),
+        },
+    }
+}
+
 // The figures of the tree that is made of these parts.
 pub(crate) fn figures_over<W: Watch>(
     shelf: &[Slot<W::Summary>],
@@ -49,8 +96,8 @@ pub(crate) fn figures_over<W: Watch>(
     ensures { Figured W.Summary.Summary.model (W.Watch.summed watch.now) shelf.now parts.left parts.top parts.right result.level result.count result.joined }
 {
     let top = &shelf[parts.top as usize];
-    let left = slot_at(shelf, parts.left);
-    let right = slot_at(shelf, parts.right);
+    let left = figures_at(shelf, parts.left);
+    let right = figures_at(shelf, parts.right);
     Figures {
         level: level_over(left.level, right.level),
         count: count_over(left.count, top.standing, right.count),

@@ -8,7 +8,7 @@ ghost use Rattle.avl.specs.Tree.{node, turn_left, turn_right, lift_left, lift_ri
 ghost use Rattle.slots.specs.Slots.{parts, slot, Kept};
 ghost use Rattle.slots.specs.Chain.{Makes};
 
-use crate::figures::{figures_over, slot_at};
+use crate::figures::{figures_over, level_at};
 use crate::{Parts, Slot};
 use avl::Lean;
 use watches::{Summary, Watch};
@@ -84,7 +84,7 @@ fn lift_right<W: Watch>(shelf: &mut [Slot<W::Summary>], parts: Parts, watch: &W)
     let Some(up) = parts_at(shelf, parts.right) else {
         return put(shelf, parts, watch);
     };
-    if slot_at(shelf, up.right).level < slot_at(shelf, up.left).level {
+    if level_at(shelf, up.right) < level_at(shelf, up.left) {
         let right = turn_right(shelf, up, watch);
         turn_left(shelf, Parts { right, ..parts }, watch)
     } else {
@@ -100,7 +100,7 @@ fn lift_left<W: Watch>(shelf: &mut [Slot<W::Summary>], parts: Parts, watch: &W) 
     let Some(up) = parts_at(shelf, parts.left) else {
         return put(shelf, parts, watch);
     };
-    if slot_at(shelf, up.right).level > slot_at(shelf, up.left).level {
+    if level_at(shelf, up.right) > level_at(shelf, up.left) {
         let left = turn_left(shelf, up, watch);
         turn_right(shelf, Parts { left, ..parts }, watch)
     } else {
@@ -118,9 +118,7 @@ pub fn rebalance<W: Watch>(shelf: &mut [Slot<W::Summary>], parts: Parts, watch: 
     if parts.top as usize >= shelf.len() {
         return parts.top;
     }
-    let left = slot_at(shelf, parts.left);
-    let right = slot_at(shelf, parts.right);
-    match Lean::of(left.level, right.level) {
+    match Lean::of(level_at(shelf, parts.left), level_at(shelf, parts.right)) {
         Lean::Even => put(shelf, parts, watch),
         Lean::Left => lift_left(shelf, parts, watch),
         Lean::Right => lift_right(shelf, parts, watch),

@@ -13,19 +13,19 @@ returns-in_err-depth g t c = record { selects = selects_none g.S.Summary.model c
 pub returns-then-k-before : goal.returns-then-k-before
 returns-then-k-before g t c =
     let node = get_or_read c.args.shelf.now c.args.link c.in_ok-node.node.now c.in_ok-node.ensures.lookup.3.0 c.in_ok-node.ensures.lookup.1 (blank g.S.Summary.model) in
-    record { selects = selects_left g.S.Summary.model c.args.shelf.now c.args.link c.args.k c.args.depth c.in_ok-node.ensures.lookup.3.0 (omega arith) c.in_ok-node.node.now node c.slot_at-before.result c.slot_at-before.ensures _ c.if-k-before.true (rw c.in_ok-depth.ensures.1 at c.find_at.ensures.selects) }
+    record { selects = selects_left g.S.Summary.model c.args.shelf.now c.args.link c.args.k c.args.depth c.in_ok-node.ensures.lookup.3.0 (omega arith) c.in_ok-node.node.now node c.count_at-before.result c.count_at-before.ensures _ c.if-k-before.true (rw c.in_ok-depth.ensures.1 at c.find_at.ensures.selects) }
 
 pub returns-then-not-node : goal.returns-then-not-node
 returns-then-not-node g t c =
     let node = get_or_read c.args.shelf.now c.args.link c.in_ok-node.node.now c.in_ok-node.ensures.lookup.3.0 c.in_ok-node.ensures.lookup.1 (blank g.S.Summary.model) in
-    record { selects = selects_past g.S.Summary.model c.args.shelf.now c.args.link c.args.k c.args.depth c.in_ok-node.ensures.lookup.3.0 (omega arith) c.in_ok-node.node.now node c.slot_at-before.result c.slot_at-before.ensures _ c.if-k-before.false c.if-not-node.true (rw c.in_ok-depth.ensures.1 at c.find_at-then-not-node.ensures.selects) }
+    record { selects = selects_past g.S.Summary.model c.args.shelf.now c.args.link c.args.k c.args.depth c.in_ok-node.ensures.lookup.3.0 (omega arith) c.in_ok-node.node.now node c.count_at-before.result c.count_at-before.ensures _ c.if-k-before.false c.if-not-node.true (rw c.in_ok-depth.ensures.1 at c.find_at-then-not-node.ensures.selects) }
 
 pub returns-then-k-before-2 : goal.returns-then-k-before-2
 returns-then-k-before-2 g t c =
     let node = get_or_read c.args.shelf.now c.args.link c.in_ok-node.node.now c.in_ok-node.ensures.lookup.3.0 c.in_ok-node.ensures.lookup.1 (blank g.S.Summary.model) in
-    record { selects = selects_here g.S.Summary.model c.args.shelf.now c.args.link c.args.k c.args.depth c.in_ok-node.ensures.lookup.3.0 (omega arith) c.in_ok-node.node.now node c.slot_at-before.result c.slot_at-before.ensures c.if-k-before-2.true c.if-not-node.false }
+    record { selects = selects_here g.S.Summary.model c.args.shelf.now c.args.link c.args.k c.args.depth c.in_ok-node.ensures.lookup.3.0 (omega arith) c.in_ok-node.node.now node c.count_at-before.result c.count_at-before.ensures c.if-k-before-2.true c.if-not-node.false }
 
 pub returns-else-k-before-2 : goal.returns-else-k-before-2
 returns-else-k-before-2 g t c =
     let node = get_or_read c.args.shelf.now c.args.link c.in_ok-node.node.now c.in_ok-node.ensures.lookup.3.0 c.in_ok-node.ensures.lookup.1 (blank g.S.Summary.model) in
-    record { selects = selects_after g.S.Summary.model c.args.shelf.now c.args.link c.args.k c.args.depth c.in_ok-node.ensures.lookup.3.0 (omega arith) c.in_ok-node.node.now node c.slot_at-before.result c.slot_at-before.ensures _ (omega arith) c.if-not-node.false (rw c.in_ok-depth.ensures.1 at c.find_at-else-k-before-2.ensures.selects) }
+    record { selects = selects_after g.S.Summary.model c.args.shelf.now c.args.link c.args.k c.args.depth c.in_ok-node.ensures.lookup.3.0 (omega arith) c.in_ok-node.node.now node c.count_at-before.result c.count_at-before.ensures _ (omega arith) c.if-not-node.false (rw c.in_ok-depth.ensures.1 at c.find_at-else-k-before-2.ensures.selects) }

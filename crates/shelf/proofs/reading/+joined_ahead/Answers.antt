@@ -13,7 +13,7 @@ returns-then-depth-eq0 g t c = record { joins = joins_none g.W.Summary.Summary.m
 pub returns-then-has_ahead : goal.returns-then-has_ahead
 returns-then-has_ahead g t c =
     let node = get_or_read c.args.shelf.now c.args.link c.in-Some.node.now c.in-Some.ensures.lookup.3.0 c.in-Some.ensures.lookup.1 (blank g.W.Summary.Summary.model) in
-    record { joins = joins_right g.W.Summary.Summary.model g.met.W.Summary.Summary.lawful (g.W.Watch.summed c.args.watch.now) (g.met.W.Watch.rules c.args.watch.now).light g.D.Date.model c.args.place.date c.args.place.number c.args.shelf.now c.args.link c.args.depth c.in-Some.ensures.lookup.3.0 (omega arith) c.in-Some.node.now node c.slot_at-left.result c.contribution.result c.joined_ahead-rest.result c.joined_over.result c.slot_at-left.ensures (cc) c.joined_over.ensures (cc) c.joined_ahead-rest.ensures.joins }
+    record { joins = joins_right g.W.Summary.Summary.model g.met.W.Summary.Summary.lawful (g.W.Watch.summed c.args.watch.now) (g.met.W.Watch.rules c.args.watch.now).light g.D.Date.model c.args.place.date c.args.place.number c.args.shelf.now c.args.link c.args.depth c.in-Some.ensures.lookup.3.0 (omega arith) c.in-Some.node.now node c.joined_at.result c.contribution.result c.joined_ahead-rest.result c.joined_over.result c.joined_at.ensures (cc) c.joined_over.ensures (cc) c.joined_ahead-rest.ensures.joins }
 
 pub returns-else-has_ahead : goal.returns-else-has_ahead
 returns-else-has_ahead g t c =

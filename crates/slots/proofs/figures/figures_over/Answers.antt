@@ -13,13 +13,13 @@ returns g c es a b tied ha hb few =
     let law = g.met.W.Summary.Summary.lawful in
     let shelf = c.args.shelf.now in
     let here = ap entry (get_or_default shelf c.args.parts.top c.index-shelf-parts.result (blank model) c.requires) ∙ tied c.args.parts.top in
-    let at_a = figures_of model summed es shelf c.args.parts.left c.slot_at-left.result a c.slot_at-left.ensures ha in
-    let at_b = figures_of model summed es shelf c.args.parts.right c.slot_at-right.result b c.slot_at-right.ensures hb in
+    let at_a = figures_of model summed es shelf c.args.parts.left a ha in
+    let at_b = figures_of model summed es shelf c.args.parts.right b hb in
     let light = own_light model law summed (g.met.W.Watch.rules c.args.watch.now).light es in
     let same = ap (contribution model summed) here in
     let contribution_i : ◌≡◌ {A = g.row.W-Summary.Denot} c.contribution.result (contribution model summed (es c.args.parts.top)) = cc in
-    let weight_a = ap model.weight at_a.2 in
-    let weight_b = ap model.weight at_b.2 in
+    let weight_a = ap model.weight (c.figures_at-left.ensures.joined ∙ at_a.2) in
+    let weight_b = ap model.weight (c.figures_at-right.ensures.joined ∙ at_b.2) in
     let weight_i = ap model.weight contribution_i in
     let light_a = tree_light model law (own model summed es) light a (omega arith) in
     let light_b = tree_light model law (own model summed es) light b (omega arith) in
@@ -30,6 +30,6 @@ returns g c es a b tied ha hb few =
     let few_b = count_small (standing es) b in
     let stands = ap (λ e. e.standing) here in
     let deep = c.level_over.ensures in
-    let fits = count_fits c.slot_at-left.result.count c.index-shelf-parts.result.standing c.slot_at-right.result.count (omega arith) (omega arith) in
+    let counts = c.count_over.ensures ∙ count_fits _ _ _ (omega arith) (omega arith) in
     let joins = c.joined_over.ensures (omega arith) in
     (omega arith, cc, cc)
