@@ -22,10 +22,11 @@ mod trial;
 
 use machines::Operation;
 use primitives::CHANGE;
+use slots::Slot;
 use slots::figures::slot_at;
 use std::{io, iter};
 use trial::Trial;
-use watches::CellWatch;
+use watches::{CellWatch, Sum};
 
 const SLOTS: u16 = 1_024;
 
@@ -52,20 +53,27 @@ fn operation(n: u16) -> Operation {
 }
 
 fn print_line(rt: &HostRuntime, shelf: &Trial<CellWatch>, n: u16) -> io::Result<()> {
-    let levels = slot_at(shelf.slots.as_slice(), shelf.root).level;
+    let levels = slot_at(shelf.slots, shelf.root).level;
     let standing = shelf.count_up_to(LAST_DAY);
     let sum = shelf.figure_up_to(LAST_DAY);
-    print!(rt; "{n:>7} {levels:>6} {standing:>8} {sum:>7}")?;
     match (shelf.find(0), shelf.find(standing.saturating_sub(1))) {
-        (Some(first), Some(last)) => println!(rt; " {first:>5} {last:>5}"),
-        _ => println!(rt; "  none  none"),
+        (Some(first), Some(last)) => {
+            println!(rt; "{n:>7} {levels:>6} {standing:>8} {sum:>7} {first:>5} {last:>5}")
+        }
+        _ => println!(rt; "{n:>7} {levels:>6} {standing:>8} {sum:>7}  none  none"),
     }
 }
 
 // Adds an entry under each of the days, says which of them is refused, and prints a line at each of the sizes.
-fn fill(rt: &HostRuntime, shelf: &mut Trial<CellWatch>, days: &[i32]) -> io::Result<()> {
+fn fill<I: Iterator<Item = i32> + Drop>(
+    rt: &HostRuntime,
+    shelf: &mut Trial<CellWatch>,
+    days: I,
+) -> io::Result<()>
+    requires { I.can_next days }
+{
     for (number, day) in (1..=SLOTS + 1).zip(days) {
-        if shelf.add(*day, operation(number)).is_none() {
+        if shelf.add(day, operation(number)).is_none() {
             println!(rt; "entry {number} is refused")?;
         }
         if SIZES.contains(&number) {
@@ -101,10 +109,19 @@ fn print_answers(rt: &HostRuntime, shelf: &Trial<CellWatch>) -> io::Result<()> {
 }
 
 // Prints what a shelf answers whose entries come in under these days, one after the other.
-fn print_order(rt: &HostRuntime, name: &str, days: &[i32], watch: CellWatch) -> io::Result<()> {
+// Neither the slots nor the days take memory from the heap, so that only a write can fail.
+fn print_order<I: Iterator<Item = i32> + Drop>(
+    rt: &HostRuntime,
+    name: &str,
+    days: I,
+    watch: CellWatch,
+) -> io::Result<()>
+    requires { I.can_next days }
+{
     println!(rt; "{name}")?;
     println!(rt; "entries levels standing     sum first  last")?;
-    let mut shelf = Trial::new(rt.alloc(), watch, SLOTS as usize)?;
+    let mut slots = [Slot::<Sum>::blank(); SLOTS as usize];
+    let mut shelf = Trial::new(watch, &mut slots);
     fill(rt, &mut shelf, days)?;
     println!(rt; "every third entry voided")?;
     void_every_third(&mut shelf);
@@ -125,21 +142,16 @@ fn main(rt: HostRuntime) -> io::Result<()> {
     let Some(watch) = CellWatch::new(0) else {
         return println!(rt; "a tally has no cell 0");
     };
-    let heap = rt.alloc();
-    // Each order has a day more than there are slots, so that an entry is refused.
-    let rising: Vec<i32> = (0..=LAST_DAY + 1).collect(heap)?;
-    let falling: Vec<i32> = (-1..=LAST_DAY).rev().collect(heap)?;
-    let zigzag: Vec<i32> = (0..=LAST_DAY + 1).map(zigzag_day).collect(heap)?;
-    let equal = [500; SLOTS as usize + 1];
-    let scrambled: Vec<i32> = iter::successors(
-        Some(next_number(1)),
-        |number| Some(next_number(*number)),
-    ).map(|number| (number / 8) as i32)
-        .take(SLOTS as usize + 1)
-        .collect(heap)?;
-    print_order(&rt, "rising", &rising, watch)?;
-    print_order(&rt, "falling", &falling, watch)?;
-    print_order(&rt, "zigzag", &zigzag, watch)?;
-    print_order(&rt, "equal", &equal, watch)?;
-    print_order(&rt, "scrambled", &scrambled, watch)
+    let scrambled = iter::successors(Some(next_number(1)), |number| Some(next_number(*number)));
+    // Each order has more days than there are slots, so that an entry is refused.
+    print_order(&rt, "rising", 0..=LAST_DAY + 1, watch)?;
+    print_order(&rt, "falling", (-1..=LAST_DAY).rev(), watch)?;
+    print_order(&rt, "zigzag", (0..=LAST_DAY + 1).map(zigzag_day), watch)?;
+    print_order(&rt, "equal", iter::repeat(500), watch)?;
+    print_order(
+        &rt,
+        "scrambled",
+        scrambled.map(|number| (number / 8) as i32),
+        watch,
+    )
 }

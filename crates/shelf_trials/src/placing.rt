@@ -9,7 +9,8 @@ use watches::Sum;
 
 #[test]
 fn an_entry_goes_behind_others_of_its_date(rt: HostRuntime) -> Result<(), Fail> {
-    let mut shelf = Trial::new(rt.alloc(), cell(0)?, 8)?;
+    let mut slots = [Slot::blank(); 8];
+    let mut shelf = Trial::new(cell(0)?, &mut slots);
     shelf.enter_days(&[5, 5, 3, 5])?;
     assert_eq!(rt; shelf.find(0), Some(2));
     assert_eq!(rt; shelf.find(1), Some(0));
@@ -20,7 +21,8 @@ fn an_entry_goes_behind_others_of_its_date(rt: HostRuntime) -> Result<(), Fail> 
 
 #[test]
 fn a_late_entry_goes_between_earlier_and_later_ones(rt: HostRuntime) -> Result<(), Fail> {
-    let mut shelf = Trial::new(rt.alloc(), cell(0)?, 8)?;
+    let mut slots = [Slot::blank(); 8];
+    let mut shelf = Trial::new(cell(0)?, &mut slots);
     shelf.enter_days(&[10, 20, 30, 25])?;
     assert_eq!(rt; shelf.find(0), Some(0));
     assert_eq!(rt; shelf.find(1), Some(1));
@@ -31,7 +33,8 @@ fn a_late_entry_goes_between_earlier_and_later_ones(rt: HostRuntime) -> Result<(
 
 #[test]
 fn days_go_by_their_numbers_and_not_by_their_bytes(rt: HostRuntime) -> Result<(), Fail> {
-    let mut shelf = Trial::new(rt.alloc(), cell(0)?, 8)?;
+    let mut slots = [Slot::blank(); 8];
+    let mut shelf = Trial::new(cell(0)?, &mut slots);
     shelf.enter_days(&[i32::MAX, 256, 1, -1, i32::MIN])?;
     assert_eq!(rt; shelf.find(0), Some(4));
     assert_eq!(rt; shelf.find(1), Some(3));
@@ -59,7 +62,8 @@ fn an_unknown_day_goes_before_the_known_ones(rt: HostRuntime) -> Result<(), Fail
 
 #[test]
 fn of_days_1_3_2_the_middle_comes_to_the_top(rt: HostRuntime) -> Result<(), Fail> {
-    let mut shelf = Trial::new(rt.alloc(), cell(0)?, 8)?;
+    let mut slots = [Slot::blank(); 8];
+    let mut shelf = Trial::new(cell(0)?, &mut slots);
     shelf.enter_days(&[1, 3, 2])?;
     assert_eq!(rt; shelf.root, 2);
     assert_eq!(rt; shelf.tree_at(2), Some((0, 1, 2)));
@@ -68,7 +72,8 @@ fn of_days_1_3_2_the_middle_comes_to_the_top(rt: HostRuntime) -> Result<(), Fail
 
 #[test]
 fn of_days_3_1_2_the_middle_comes_to_the_top(rt: HostRuntime) -> Result<(), Fail> {
-    let mut shelf = Trial::new(rt.alloc(), cell(0)?, 8)?;
+    let mut slots = [Slot::blank(); 8];
+    let mut shelf = Trial::new(cell(0)?, &mut slots);
     shelf.enter_days(&[3, 1, 2])?;
     assert_eq!(rt; shelf.root, 2);
     assert_eq!(rt; shelf.tree_at(2), Some((1, 0, 2)));
@@ -78,7 +83,8 @@ fn of_days_3_1_2_the_middle_comes_to_the_top(rt: HostRuntime) -> Result<(), Fail
 // The shelf that the documents draw, with its fourth entry voided.
 #[test]
 fn the_shelf_of_five_entries_is_chained_as_drawn(rt: HostRuntime) -> Result<(), Fail> {
-    let mut shelf = Trial::new(rt.alloc(), cell(0)?, 8)?;
+    let mut slots = [Slot::blank(); 8];
+    let mut shelf = Trial::new(cell(0)?, &mut slots);
     shelf.enter(20, change(0, 4))?;
     shelf.enter(10, change(0, 5))?;
     shelf.enter(30, change(0, -2))?;
@@ -92,14 +98,15 @@ fn the_shelf_of_five_entries_is_chained_as_drawn(rt: HostRuntime) -> Result<(), 
     assert_eq!(rt; shelf.find(0), Some(1));
     assert_eq!(rt; shelf.find(3), Some(4));
     assert_eq!(rt; shelf.count_up_to(25), 2);
-    assert_eq!(rt; shelf.checked_figure_up_to(25)?, 9);
-    assert_eq!(rt; shelf.checked_figure_up_to(30)?, 8);
+    assert_eq!(rt; shelf.checked_figure_up_to(rt.alloc(), 25)?, 9);
+    assert_eq!(rt; shelf.checked_figure_up_to(rt.alloc(), 30)?, 8);
     Ok(())
 }
 
 #[test]
 fn seven_rising_days_have_3_levels(rt: HostRuntime) -> Result<(), Fail> {
-    let mut shelf = Trial::new(rt.alloc(), cell(0)?, 8)?;
+    let mut slots = [Slot::blank(); 8];
+    let mut shelf = Trial::new(cell(0)?, &mut slots);
     shelf.enter_days(&[1, 2, 3, 4, 5, 6, 7])?;
     assert_eq!(rt; shelf.root, 3);
     assert_eq!(rt; shelf.tree_at(3), Some((1, 5, 3)));

@@ -2,7 +2,7 @@
 use crate::entries::{draw, order};
 use crate::trial::Trial;
 use machines::Operation;
-use std::alloc::Global;
+use slots::Slot;
 use std::test::Fail;
 use watches::WaitingWatch;
 
@@ -10,8 +10,9 @@ use watches::WaitingWatch;
 type Entry = (i32, Operation);
 
 // The draws unmet and the jobs left of two entries up to day 2.
-fn span_of(heap: Global, first: Entry, second: Entry) -> Result<(u32, u32), Fail> {
-    let mut shelf = Trial::new(heap, WaitingWatch, 2)?;
+fn span_of(first: Entry, second: Entry) -> Result<(u32, u32), Fail> {
+    let mut slots = [Slot::blank(); 2];
+    let mut shelf = Trial::new(WaitingWatch, &mut slots);
     for (number, operation) in [first, second] {
         shelf.enter(number, operation)?;
     }
@@ -21,10 +22,9 @@ fn span_of(heap: Global, first: Entry, second: Entry) -> Result<(u32, u32), Fail
 
 #[test]
 fn an_order_meets_a_draw_dated_later_and_none_dated_earlier(rt: HostRuntime) -> Result<(), Fail> {
-    let heap = rt.alloc();
-    assert_eq!(rt; span_of(heap, (1, order(0)), (2, draw()))?, (0, 0));
-    assert_eq!(rt; span_of(heap, (2, draw()), (1, order(0)))?, (0, 0));
-    assert_eq!(rt; span_of(heap, (1, draw()), (2, order(0)))?, (1, 1));
-    assert_eq!(rt; span_of(heap, (2, order(0)), (1, draw()))?, (1, 1));
+    assert_eq!(rt; span_of((1, order(0)), (2, draw()))?, (0, 0));
+    assert_eq!(rt; span_of((2, draw()), (1, order(0)))?, (0, 0));
+    assert_eq!(rt; span_of((1, draw()), (2, order(0)))?, (1, 1));
+    assert_eq!(rt; span_of((2, order(0)), (1, draw()))?, (1, 1));
     Ok(())
 }
