@@ -6,7 +6,7 @@ use crate::{Machine, Note, Operation, Question};
 use std::alloc::{AllocError, Global};
 
 // How many steps were counted. A count stops at u32::MAX.
-#[derive(Clone, Copy, PartialEq, Eq, Default)]
+#[derive(Clone, Copy, Debug, PartialEq, Eq, PartialOrd, Ord, Hash, Default)]
 pub struct Steps {
     pub back: u32,
     pub forward: u32,
