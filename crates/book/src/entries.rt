@@ -108,7 +108,7 @@ impl<D: Date> Entries<D> {
     }
 
     // From where on a place is searched: the front, or an entry that is dated no later. The stretch behind it is doubled from
-    // the end, so that one comparison is enough where entries come in by rising dates.
+    // the end, so that two comparisons are enough where entries come in by rising dates.
     fn searched_from(&self, date: &D) -> usize
         ensures bound { result ≤ length self.now }
         ensures front { (d : Entry D) → 0 < result → (result < length self.now) × (later D.model date.now (get_or self.now result d) ≡ false) }
