@@ -23,7 +23,7 @@ mod trial;
 use machines::Operation;
 use primitives::CHANGE;
 use slots::Slot;
-use slots::figures::slot_at;
+use slots::figures::level_at;
 use std::{io, iter};
 use trial::Trial;
 use watches::{CellWatch, Sum};
@@ -53,7 +53,7 @@ fn operation(n: u16) -> Operation {
 }
 
 fn print_line(rt: &HostRuntime, shelf: &Trial<CellWatch>, n: u16) -> io::Result<()> {
-    let levels = slot_at(shelf.slots, shelf.root).level;
+    let levels = level_at(shelf.slots, shelf.root);
     let standing = shelf.count_up_to(LAST_DAY);
     let sum = shelf.figure_up_to(LAST_DAY);
     match (shelf.find(0), shelf.find(standing.saturating_sub(1))) {
@@ -114,14 +114,15 @@ fn print_order<I: Iterator<Item = i32> + Drop>(
     rt: &HostRuntime,
     name: &str,
     days: I,
+    slots: &mut [Slot<Sum>],
     watch: CellWatch,
 ) -> io::Result<()>
     requires { I.can_next days }
 {
     println!(rt; "{name}")?;
     println!(rt; "entries levels standing     sum first  last")?;
-    let mut slots = [Slot::<Sum>::blank(); SLOTS as usize];
-    let mut shelf = Trial::new(watch, &mut slots);
+    slots.fill(Slot::blank());
+    let mut shelf = Trial::new(watch, slots);
     fill(rt, &mut shelf, days)?;
     println!(rt; "every third entry voided")?;
     void_every_third(&mut shelf);
@@ -142,16 +143,24 @@ fn main(rt: HostRuntime) -> io::Result<()> {
     let Some(watch) = CellWatch::new(0) else {
         return println!(rt; "a tally has no cell 0");
     };
+    let mut slots = [Slot::<Sum>::blank(); SLOTS as usize];
     let scrambled = iter::successors(Some(next_number(1)), |number| Some(next_number(*number)));
     // Each order has more days than there are slots, so that an entry is refused.
-    print_order(&rt, "rising", 0..=LAST_DAY + 1, watch)?;
-    print_order(&rt, "falling", (-1..=LAST_DAY).rev(), watch)?;
-    print_order(&rt, "zigzag", (0..=LAST_DAY + 1).map(zigzag_day), watch)?;
-    print_order(&rt, "equal", iter::repeat(500), watch)?;
+    print_order(&rt, "rising", 0..=LAST_DAY + 1, &mut slots, watch)?;
+    print_order(&rt, "falling", (-1..=LAST_DAY).rev(), &mut slots, watch)?;
+    print_order(
+        &rt,
+        "zigzag",
+        (0..=LAST_DAY + 1).map(zigzag_day),
+        &mut slots,
+        watch,
+    )?;
+    print_order(&rt, "equal", iter::repeat(500), &mut slots, watch)?;
     print_order(
         &rt,
         "scrambled",
         scrambled.map(|number| (number / 8) as i32),
+        &mut slots,
         watch,
     )
 }
